@@ -8,8 +8,9 @@ use native.Mathlib.Omega.{arith}
 use lib.Dec.{eqb}
 use lib.ListN.{length}
 use lib.Seq.{slice, slice_empty}
-use borrow.Author.Tests.{eqb-true, eqb-false, eq-eqb, ne_eqb}
+use borrow.Author.Tests.{eqb-true, eq-eqb, ne_eqb}
 use borrow.Table.Steps.{cases}
+use Rattle.std.specs.Prelude.{Result, Ok, Err}
 use Rattle.headers.specs.Head.{constructed, type_field}
 use Rattle.octets.specs.Walk.{Items, no_items, item, stream_limit}
 use Rattle.tree.specs.Tree.{Tree, empty, formed, plain, tree_of}
@@ -20,8 +21,8 @@ use Rattle.contents.specs.Search.{is, first_run, items_in}
 use Rattle.contents.proofs.Firsts.{is_field}
 use Rattle.dates.specs.declared.DateFound.{DateFound}
 use Rattle.dates.specs.Dates.{date_in}
-use Rattle.dates.specs.Finding.{places_from, Answers}
-use Rattle.dates.proofs.Real.{as_date, found-small}
+use Rattle.dates.specs.Finding.{places_from, date_told, Answers}
+use Rattle.dates.proofs.Real.{found-small}
 use Rattle.elements.specs.declared.Edition.{Edition}
 use Rattle.elements.specs.Shape.{shape_of}
 use Rattle.elements.specs.Judge.{Element, Judged, accepted, refused, profile_octet, refusal_of, judge_one, judge_from, judge}
@@ -134,50 +135,47 @@ module _ (s : List ℕ) (inner : Run) {items : Items} {at code first past : ℕ}
   profile-tree : profile_in (plain s items) ≡ tree_in s inner
   profile-tree = ap (λ (i : Items). profile_in (plain s i)) e ∙ first-formed (constructed code) _ (tree_in s inner) (plain s after) refl
 
-  module _ (ruled : Reason) (zero : ruled.number ≡ 0) {d : DateFound} (a : Answers s inner d) where
-    date-is : date_in (profile_in (plain s items)) ≡ as_date s d
-    date-is = ap date_in profile-tree ∙ a.date
+  module _ (ruled : Reason) (zero : ruled.number ≡ 0) where
+    answer_is : (d : Result DateFound ℕ) → Answers s inner d → date_after ruled (date_in (profile_in (plain s items)))
+        ≡ record { number = (date_told s d).number; place = 0; part = (date_told s d).value; day = (date_told s d).day }
+    answer_is d a = let is = ap date_in profile-tree ∙ a.date in rw (is, eq-eqb ruled.number 0 zero)
 
-    answer_is : date_after ruled (date_in (profile_in (plain s items)))
-        ≡ record { number = d.number; place = 0; part = (as_date s d).value; day = (as_date s d).day }
-    answer_is = rw (date-is, eq-eqb ruled.number 0 zero)
-
-    span-is : (b : Bool) → eqb d.number 0 ≡ b → cond b (sole_span (date_places items)) (record { first = 0; past = 0 })
-        ≡ record { first = d.first; past = d.past }
+    span-is : (d : DateFound) → Answers s inner (Ok d) → sole_span (date_places items) ≡ record { first = d.first; past = d.past }
     unfolding places_from
-    span-is true z = ap sole_span (ap (places_from 2) profile-items ∙ a.place (eqb-true d.number 0 z))
-    span-is false z = let n = a.no_part (eqb-false d.number 0 z) in rw (n.0, n.1)
+    span-is d a = ap sole_span (ap (places_from 2) profile-items ∙ a.placed.place)
 
-    pub found-told : Tells s items ruled (dated_as d)
-    found-told =
-        let span = span-is (eqb d.number 0) refl in
+    pub found-told : (d : Result DateFound ℕ) → Answers s inner d → Tells s items ruled (dated_as d)
+    found-told (Ok d) a =
+        let is = answer_is (Ok d) a in
+        let span = span-is d a in
         record {
-          answered = rw (answer_is, span);
-          stands = record { part = sym (ap (λ (x : DateAnswer). x.part) answer_is); order = a.order; inside = a.inside };
+          answered = rw (is, span);
+          stands = record { part = sym (ap (λ (x : DateAnswer). x.part) is); order = a.placed.order; inside = a.placed.inside };
+        }
+    found-told (Err number) a =
+        let is = answer_is (Err number) a in
+        let some : eqb number 0 ≡ false = ne_eqb number 0 a.placed in
+        record {
+          answered = rw (is, some);
+          stands = record { part = slice_empty 0 s ∙ sym (ap (λ (x : DateAnswer). x.part) is); order = omega arith; inside = omega arith };
         }
 
 -- the numbers of a date that was found fit 32 bits
-pub found-narrow : {s : List ℕ} {r : Run} {d : DateFound} → Answers s r d → length s ≤ stream_limit → Narrow d
-found-narrow {s} {r} {d} a l =
+pub found-narrow : {s : List ℕ} {r : Run} (d : Result DateFound ℕ) → Answers s r d → length s ≤ stream_limit → Narrow d
+found-narrow (Ok d) a l =
     let small = found-small a in
-    let order = a.order in
-    let inside = a.inside in
-    record {
-      number = small.number;
-      first = omega arith;
-      past = omega arith;
-      year = small.year;
-      month = small.month;
-      day = small.day;
-    }
+    let order = a.placed.order in
+    let inside = a.placed.inside in
+    record { first = omega arith; past = omega arith; year = small.year; month = small.month; day = small.day }
+found-narrow (Err number) a l = let small = found-small a in small.number
 
 module _ (edition : Edition) (s : List ℕ) where
   -- of a letter
   pub date-told : (ruled edition s).number ≡ 0 → {octet first past : ℕ} {inner rest : Run}
-      → Meeting s (whole_stream s) octet first past inner rest → {d : DateFound} → Answers s inner d → DateTells edition s (dated_as d)
+      → Meeting s (whole_stream s) octet first past inner rest → {d : Result DateFound ℕ} → Answers s inner d → DateTells edition s (dated_as d)
   unfolding date_of dated
-  date-told zero {inner = inner} m a =
-      let f = found-told s inner (met-profile edition s zero m) m.tree (ruled edition s) zero a in
+  date-told zero {inner = inner} m {d = d} a =
+      let f = found-told s inner (met-profile edition s zero m) m.tree (ruled edition s) zero d a in
       record { answered = f.answered; stands = f.stands }
 
   -- of a stream that rules 1 to 15 refuse

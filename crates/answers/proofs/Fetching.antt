@@ -9,6 +9,7 @@ use lib.Dec.{eqb}
 use lib.ListN.{length, get_or, get_elem?}
 use lib.Seq.{length-slice}
 use borrow.Author.Tests.{eq-eqb, ne_eqb}
+use Rattle.std.specs.Prelude.{Option, Some, None}
 use Rattle.octets.specs.Walk.{Items}
 use Rattle.runs.specs.declared.Run.{Run}
 use Rattle.rows.specs.Rows.{scratch_width}
@@ -20,18 +21,18 @@ use Rattle.elements.specs.declared.Edition.{Edition}
 use Rattle.elements.specs.Judge.{bytes_of, Content, single, joined_content, Element}
 use Rattle.elements.specs.Says.{Bounds}
 use Rattle.letters.specs.Letter.{letter, refusal, letter_in, rows_in}
+use Rattle.letters.specs.declared.Held.{Held}
+use Rattle.letters.specs.declared.Held.TheVariants.{Part, Pieces}
 use Rattle.letters.specs.Content.{HeldWhole, HeldInPieces}
 use Rattle.judging.proofs.Lists.{at-below}
 use Rattle.judging.proofs.Rows.{RowOf, row-of, cell_at}
 use Rattle.letters.proofs.Fetching.{held-element, part_joined}
 use Rattle.reading.specs.Match.{unit_kind}
-use Rattle.answers.specs.declared.ContentFound.{ContentFound}
 use Rattle.answers.specs.declared.Found.{Found}
-use Rattle.answers.specs.declared.ContentFound.TheVariants.{NoUnit, Content as Part, Pieces}
 use Rattle.answers.specs.Answers.{Fetched, handed, withheld, fetched_by, part_of, fetched, why_not, located, all_of, joined_in}
 use Rattle.answers.proofs.Small.{refusal-small}
 use Rattle.answers.proofs.Judging.{Accepting}
-use Rattle.answers.specs.Asking.{ContentAt, other_kind, held_whole, held_in_pieces, nowhere, Fetches, FindsContent}
+use Rattle.answers.specs.Asking.{ContentAt, other_kind, held_there, nowhere, Fetches, FindsContent}
 
 -- past the end of a list there is nothing
 nothing-past : {A : Type 0} (xs : List A) (k : ℕ) → length xs ≤ k → get_elem? xs k ≡ none
@@ -75,7 +76,7 @@ module _ (edition : Edition) (s : List ℕ) (asked : ℕ) where
   of_unit {unit = unit} e there kind wanted = rw (e, there, eq-eqb unit.kind unit_kind kind)
 
   -- 20, whatever is wanted of the content
-  no-unit : ((wanted : Content → Fetched) → fetched_by wanted (letter_in edition s) asked ≡ withheld 20 0) → FindsContent edition s asked NoUnit
+  no-unit : ((wanted : Content → Fetched) → fetched_by wanted (letter_in edition s) asked ≡ withheld 20 0) → FindsContent edition s asked None
   unfolding fetched located joined_in
   no-unit e =
       let f : fetched edition s asked ≡ withheld 20 0 = e part_of in
@@ -89,7 +90,7 @@ module _ (edition : Edition) (s : List ℕ) (asked : ℕ) where
 
   module _ {rows : List ℕ} {count headers : ℕ} (l : Accepting edition s rows count headers) where
     -- 20 ".. or doesn't exist"
-    pub finds-missing : count ≤ asked → FindsContent edition s asked NoUnit
+    pub finds-missing : count ≤ asked → FindsContent edition s asked None
     finds-missing past =
         let e = l.judged in
         let no_element = nothing-past l.held.elements asked (omega (arith, l.held.holds.counted)) in
@@ -97,11 +98,11 @@ module _ (edition : Edition) (s : List ℕ) (asked : ℕ) where
 
     module _ (element : Element) (there : get_elem? l.held.elements asked ≡ some element) where
       -- 20 "asked element is no text unit"
-      finds-other : (element.kind ≡ unit_kind → ⊥) → FindsContent edition s asked NoUnit
+      finds-other : (element.kind ≡ unit_kind → ⊥) → FindsContent edition s asked None
       finds-other other = let e = l.judged in no-unit (λ wanted. rw (e, there, ne_eqb element.kind unit_kind other))
 
       finds-part : (row : RowOf s (rows_in edition s) asked element) (first past : ℕ) → element.kind ≡ unit_kind
-          → HeldWhole s first past row.row.content element.content → FindsContent edition s asked (Part first past)
+          → HeldWhole s first past row.row.content element.content → FindsContent edition s asked (Some (Part first past))
       unfolding fetched located joined_in
       finds-part row first past kind h =
           let within = l.within_limit in
@@ -121,7 +122,7 @@ module _ (edition : Edition) (s : List ℕ) (asked : ℕ) where
           }
 
       finds-pieces : (run : Run) {inside : Items} → element.kind ≡ unit_kind → HeldInPieces s run inside element.content
-          → FindsContent edition s asked (Pieces run)
+          → FindsContent edition s asked (Some (Pieces run))
       unfolding fetched located joined_in
       finds-pieces run kind h =
           let within = l.within_limit in
@@ -136,16 +137,16 @@ module _ (edition : Edition) (s : List ℕ) (asked : ℕ) where
           }
 
     finds-by : (element : Element) → get_elem? l.held.elements asked ≡ some element → (row : RowOf s (rows_in edition s) asked element)
-        → kind_at rows asked ≡ element.kind → {found : ContentFound} → ContentAt edition s rows asked found → FindsContent edition s asked found
+        → kind_at rows asked ≡ element.kind → {found : Option Held} → ContentAt edition s rows asked found → FindsContent edition s asked found
     finds-by element there row kind (other_kind other) = finds-other element there (λ k. other (kind ∙ k))
-    finds-by element there row kind (held_whole {first} {past} is holds) =
+    finds-by element there row kind (held_there {held = Part first past} is holds) =
         finds-part element there row first past (sym kind ∙ is)
         (held-element holds l.held.elements row.row element l.held.judged row.stands there)
-    finds-by element there row kind (held_in_pieces {run} is holds) =
+    finds-by element there row kind (held_there {held = Pieces run} is holds) =
         finds-pieces element there run (sym kind ∙ is) (held-element holds l.held.elements row.row element l.held.judged row.stands there)
 
     -- what was found of it
-    pub finds-at : {found : ContentFound} → asked < count → ContentAt edition s rows asked found → FindsContent edition s asked found
+    pub finds-at : {found : Option Held} → asked < count → ContentAt edition s rows asked found → FindsContent edition s asked found
     finds-at below found =
         let (element, there) = at-below l.held.elements asked (omega (arith, l.held.holds.counted)) in
         let row = row-of l.held.holds.saying asked element there in

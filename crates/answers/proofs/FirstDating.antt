@@ -8,6 +8,7 @@ use lib.Dec.{eqb, leb, ltb}
 use lib.ListN.{length}
 use borrow.Author.Tests.{eqb-true, lt-ltb, le-ltb}
 use Rattle.laws.proofs.Tests.{cond-holds}
+use Rattle.std.specs.Prelude.{Result}
 use Rattle.headers.specs.Head.{constructed, type_field}
 use Rattle.octets.specs.Walk.{stops, stream_limit}
 use Rattle.tree.specs.Tree.{Tree, formed}
@@ -89,7 +90,7 @@ module _ (edition : Edition) (s : List ℕ) where
           first-told (refused-told s (walk_first s).items (first_ruled edition s) number 0 (ruled-is ∙ rw e) some)
 
       -- what is found in it
-      pub first-dated : rule ≡ 0 → {d : DateFound} → Answers s inner d → FirstTells edition s (dated_as d)
-      first-dated zero a =
+      pub first-dated : rule ≡ 0 → (d : Result DateFound ℕ) → Answers s inner d → FirstTells edition s (dated_as d)
+      first-dated zero d a =
           let none : (first_ruled edition s).number ≡ 0 = rw ruled-is zero in
-          first-told (found-told s inner (early-profile code (shape_by edition code).octet zero) x.is (first_ruled edition s) none a)
+          first-told (found-told s inner (early-profile code (shape_by edition code).octet zero) x.is (first_ruled edition s) none d a)

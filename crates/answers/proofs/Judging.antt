@@ -4,7 +4,7 @@ use mathlib.Core.List.{List}
 use Prim.Native.Nat.{ℕ, ◌≤◌}
 use native.Mathlib.Omega.{arith}
 use lib.ListN.{length}
-use Rattle.octets.specs.declared.Outcome.TheVariants.{Ended}
+use Rattle.octets.specs.Told.{ended}
 use Rattle.octets.specs.Walk.{stream_limit, walk_of}
 use Rattle.tree.specs.Tree.{tree_of}
 use Rattle.tree.specs.Accepts.{Accepts}
@@ -34,7 +34,7 @@ pub record Accepting (edition : Edition) (s rows : List ℕ) (count headers : �
   pub within_limit : length s ≤ stream_limit
 
 -- rules 9 to 15 refused it
-pub refused-stopped : {edition : Edition} {s : List ℕ} {at headers number place : ℕ} → walk_of s ≡ Ended at headers → Stopped edition s number place
+pub refused-stopped : {edition : Edition} {s : List ℕ} {at headers number place : ℕ} → walk_of s ≡ ended at headers → Stopped edition s number place
     → Refusing edition s number place headers
 refused-stopped {edition} {s} {at} {headers} {number} {place} walked stopped =
     let told : letter_in edition s ≡ refusal number place headers =
@@ -42,7 +42,7 @@ refused-stopped {edition} {s} {at} {headers} {number} {place} walked stopped =
     record { judged = told; small = refusal-small edition s number place headers told }
 
 -- none of them did
-pub accepted-judged : {edition : Edition} {s rows : List ℕ} {count at headers : ℕ} → walk_of s ≡ Ended at headers → LetterRows edition s rows count
+pub accepted-judged : {edition : Edition} {s rows : List ℕ} {count at headers : ℕ} → walk_of s ≡ ended at headers → LetterRows edition s rows count
     → Accepting edition s rows count headers
 accepted-judged {edition} {s} {rows} {count} {at} {headers} walked held =
     let counted = held.holds.counted in
@@ -56,5 +56,5 @@ accepted-judged {edition} {s} {rows} {count} {at} {headers} walked held =
     }
 
 -- a walk that ended accepts the stream with its own tree
-pub accepts-walked : {s : List ℕ} {at headers : ℕ} → walk_of s ≡ Ended at headers → Accepts s (tree_of s)
+pub accepts-walked : {s : List ℕ} {at headers : ℕ} → walk_of s ≡ ended at headers → Accepts s (tree_of s)
 accepts-walked {at = at} {headers = headers} w = record { at = at; headers = headers; ended = w; tree = refl }

@@ -1,6 +1,6 @@
 -- The number of a refusal by rules 1 to 15 is one of 1 to 15, its place lies in the stream, and no more than half the stream's bytes are
 -- headers: by what is known of the walk, and for each rule by its number.
-use mathlib.Core.Path.{◌≡◌, refl, ◌∙◌}
+use mathlib.Core.Path.{◌≡◌, refl, ap, ◌∙◌}
 use mathlib.Core.Logic.{◌⊎◌, inl, inr}
 use mathlib.Core.Bool.{Bool, true, false, cond, not, xor}
 use mathlib.Core.List.{List, [], ◌∷◌, ◌++◌}
@@ -10,8 +10,8 @@ use lib.Dec.{eqb, leb}
 use lib.ListN.{length}
 use borrow.Author.Tests.{leb-true, eqb-false}
 use borrow.Table.Steps.{cases}
-use Rattle.octets.specs.declared.Outcome.{Outcome}
-use Rattle.octets.specs.declared.Outcome.TheVariants.{Ended, Refused}
+use Rattle.std.specs.Prelude.{Ok, Err}
+use Rattle.octets.specs.Told.{Outcome, ended, refused as faulty, told}
 use Rattle.octets.specs.Walk.{Items, count, stream_limit, deepest, End, ends, stops, run, outcome_of, walk_of}
 use Rattle.laws.proofs.Tests.{cond-holds}
 use Rattle.octets.proofs.Walks.{EndOk, run_ok}
@@ -37,21 +37,21 @@ pub record Small (s : List ℕ) (number place headers : ℕ) : Type 0 where
 
 -- the walk's refusals
 refused-small : (s : List ℕ) (b : Bool) (k : ℕ) (e : End) → (b ≡ true → length s ≤ stream_limit) → Stops (length s) e → EndOk 0 (length s) k e
-    → (number place headers : ℕ) → cond b (outcome_of k e) (Refused 1 0 0) ≡ Refused number place headers → Small s number place headers
+    → (number place headers : ℕ) → cond b (outcome_of k e) (faulty 1 0 0) ≡ faulty number place headers → Small s number place headers
 refused-small s true k (ends at) within stop ok number place headers p = let z : ◌≡◌ {A = ℕ} 0 1 = cc in absurd (omega arith)
 refused-small s true k (stops m q) within stop ok number place headers p =
-    let a : number ≡ m = cc in
-    let b : place ≡ q = cc in
-    let c : headers ≡ k = cc in
+    let a : m ≡ number = ap (λ (o : Outcome). (told o).number) p in
+    let b : q ≡ place = ap (λ (o : Outcome). (told o).place) p in
+    let c : k ≡ headers = ap (λ (o : Outcome). (told o).headers) p in
     let l = within refl in
     record { low = omega arith; high = omega arith; inside = omega arith; near = omega arith; half = omega arith; few = omega arith }
 refused-small s false k e within stop ok number place headers p =
-    let a : number ≡ 1 = cc in
-    let b : place ≡ 0 = cc in
-    let c : headers ≡ 0 = cc in
+    let a : 1 ≡ number = ap (λ (o : Outcome). (told o).number) p in
+    let b : 0 ≡ place = ap (λ (o : Outcome). (told o).place) p in
+    let c : 0 ≡ headers = ap (λ (o : Outcome). (told o).headers) p in
     record { low = omega arith; high = omega arith; inside = omega arith; near = omega arith; half = omega arith; few = omega arith }
 
-pub walk-small : (s : List ℕ) (number place headers : ℕ) → walk_of s ≡ Refused number place headers → Small s number place headers
+pub walk-small : (s : List ℕ) (number place headers : ℕ) → walk_of s ≡ faulty number place headers → Small s number place headers
 unfolding walk_of
 walk-small s number place headers p =
     let w = run deepest s 0 (length s) false in
@@ -59,7 +59,7 @@ walk-small s number place headers p =
     (run-stops deepest s 0 (length s) false (omega arith)) (run_ok deepest s 0 (length s) false (omega arith)) number place headers p
 
 -- the header count of a walk that ended
-pub headers-small : (s : List ℕ) (at headers : ℕ) → walk_of s ≡ Ended at headers → (headers + headers ≤ length s) × (headers ≤ stream_limit)
+pub headers-small : (s : List ℕ) (at headers : ℕ) → walk_of s ≡ ended at headers → (headers + headers ≤ length s) × (headers ≤ stream_limit)
 headers-small s at headers p =
     let l = stream-within s at headers p in
     let c = (stream-count s at headers p).1 in
@@ -126,7 +126,7 @@ pub place_inside : (s : List ℕ) (k : ℕ) → place_of k (items_of_stream s) �
 place_inside s k = place-before (run-before deepest s 0 (length s) false (omega arith)) k
 
 module _ (edition : Edition) (s : List ℕ) (number place headers : ℕ) where
-  judged-small : (at k : ℕ) → walk_of s ≡ Ended at k → (j : Judged) → judge edition (tree_of s) ≡ j
+  judged-small : (at k : ℕ) → walk_of s ≡ ended at k → (j : Judged) → judge edition (tree_of s) ≡ j
       → after_walk (items_of_stream s) k j ≡ refusal number place headers → Small s number place headers
   judged-small at k w (accepted elements) p e = let z : ◌≡◌ {A = ℕ} 0 1 = cc in absurd (omega arith)
   judged-small at k w (refused n element) p e =
@@ -139,13 +139,16 @@ module _ (edition : Edition) (s : List ℕ) (number place headers : ℕ) where
       let h = headers-small s at k w in
       record { low = omega arith; high = omega arith; inside = omega arith; near = omega arith; half = omega arith; few = omega arith }
 
-  walked-small : (o : Outcome) → walk_of s ≡ o → by_walk edition s o ≡ refusal number place headers → Small s number place headers
-  walked-small (Ended at k) w e = judged-small at k w (judge edition (tree_of s)) refl e
-  walked-small (Refused n q k) w e =
+  faulty-small : (n q k : ℕ) → walk_of s ≡ faulty n q k → refusal n q k ≡ refusal number place headers → Small s number place headers
+  faulty-small n q k w e =
       let a : n ≡ number = cc in
       let b : q ≡ place = cc in
       let c : k ≡ headers = cc in
       walk-small s number place headers (w ∙ rw (a, b, c))
+
+  walked-small : (o : Outcome) → walk_of s ≡ o → by_walk edition s o ≡ refusal number place headers → Small s number place headers
+  walked-small (Ok o) w e = judged-small o.at o.count w (judge edition (tree_of s)) refl e
+  walked-small (Err f) w e = faulty-small f.number f.place f.count w e
 
   -- a stream that is refused by one of rules 1 to 15
   pub refusal-small : letter_in edition s ≡ refusal number place headers → Small s number place headers

@@ -31,7 +31,7 @@ use Rattle.answers.specs.Related.{ChildrenOutcome, related_list, related}
 use Rattle.answers.specs.Filling.{Relates}
 use Rattle.answers.specs.Questions.{reason_told, check_told, located_told, copied_told, listed_told, related_told, ordered_told, check_of, located_of, copied_of}
 use Rattle.answers.specs.Questions.{listed_of, related_of, ordered_of, refused_told, Leaves}
-use Rattle.answers.specs.Questions.{text_told, text_read_of, sourced_told, sourced_of}
+use Rattle.answers.specs.Questions.{told_with, text_told, text_read_of, sourced_told, sourced_of}
 use Rattle.answers.specs.TextSteps.{TextsFlat}
 use Rattle.answers.specs.Sources.{SourcesOutcome}
 use Rattle.answers.proofs.Small.{refusal-small}
@@ -95,6 +95,19 @@ as-asked {edition = edition} {known = known} {s = s} {table = table} {flat = fla
 pub refused_as : {question known : Question} {told : Told} (number place headers : ℕ) → question ≡ known → told ≡ refused_told known number place headers
     → told ≡ refused_told question number place headers
 refused_as number place headers q t = t ∙ ap (λ (x : Question). refused_told x number place headers) (sym q)
+
+-- and of any question but the check number and place alone
+pub refused-other : (question : Question) → (question ≡ Check → ⊥) → (number place headers : ℕ) → refused_told question number place headers
+    ≡ told_with number place 0 0 0
+refused-other Rules other number place headers = refl
+refused-other Check other number place headers = absurd (other refl)
+refused-other (Content element) other number place headers = refl
+refused-other (Joined element) other number place headers = refl
+refused-other (Reading side room) other number place headers = refl
+refused-other (Children row room) other number place headers = refl
+refused-other (Order class) other number place headers = refl
+refused-other (Text side room) other number place headers = refl
+refused-other (Sources side) other number place headers = refl
 
 module _ (edition : Edition) (s table flat out : List ℕ) where
   pub leaves-rules : {r : Reason} → r ≡ ruled edition s → Leaves edition Rules s table flat out (reason_told r) table flat out

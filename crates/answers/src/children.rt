@@ -14,22 +14,14 @@ use super::table::{PARENT, TABLE_WIDTH};
 use super::{CHILDREN_TOO_SHORT, NO_ROW, Related, TOO_FEW_ROWS, table};
 use elements::Edition;
 
-fn wide(x: u32) -> usize
-    ensures { result ≡ x }
-{
-    x as usize
-}
-
-// How many rows of a finished table have this one as their parent.
+// How many rows of a finished table have this one as their parent. To count and to put is a pass each: nothing is put to a list that is too short.
 fn count_children(table: &[u32], count: usize, row: usize) -> usize
     requires { (count ≤ most_elements) × (count * table_width ≤ length table.now) }
     ensures { result ≡ length (rows_with table.now row 0 count) }
 {
-    let mut j: usize = 0;
-    let mut found: usize = 0;
-    while j < count {
-        let parent = wide(table[j * TABLE_WIDTH + PARENT]);
-        j += 1;
+    let mut found = 0;
+    for j in 0..count {
+        let parent = table[j * TABLE_WIDTH + PARENT] as usize;
         if parent == row {
             found += 1;
         }
@@ -44,14 +36,11 @@ fn put_children(table: &[u32], count: usize, row: usize, list: &mut [u32])
     ensures { list.new ≡ rows_with table.now row 0 count
         ++ drop (length (rows_with table.now row 0 count)) list.old }
 {
-    let mut j: usize = 0;
-    let mut found: usize = 0;
-    while j < count {
-        let child = j;
-        let parent = wide(table[j * TABLE_WIDTH + PARENT]);
-        j += 1;
+    let mut found = 0;
+    for j in 0..count {
+        let parent = table[j * TABLE_WIDTH + PARENT] as usize;
         if parent == row {
-            list[found] = child as u32;
+            list[found] = j as u32;
             found += 1;
         }
     }

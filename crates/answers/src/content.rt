@@ -9,28 +9,22 @@ ghost use Rattle.letters.specs.Scratch.{LetterRows};
 ghost use Rattle.answers.specs.Answers.{JoinedOutcome};
 ghost use Rattle.answers.specs.Asking.{ContentAt, Fetches, FindsContent, Copies};
 
-use super::{COPY_TOO_SHORT, ContentFound, Copied, Found, IN_PIECES, NO_UNIT};
+use super::{COPY_TOO_SHORT, Copied, Found, IN_PIECES, NO_UNIT};
 use elements::Edition;
 use letters::Held;
-use rows::SCRATCH_WIDTH;
+use rows::TEXT_UNIT;
 use runs::Run;
 
-// As a row has it.
-const TEXT_UNIT: u32 = rows::TEXT_UNIT as u32;
-
 // The content of the element whose row is given, if it is a text unit.
-fn content_at(edition: Edition, stream: &[u8], rows: &[u32], element: usize) -> ContentFound
+fn content_at(edition: Edition, stream: &[u8], rows: &[u32], element: usize) -> Option<Held>
     requires fine { Fine stream.now (whole_stream stream.now) }
     requires element_bound { (element < 4096) × ((count : ℕ) × LetterRows edition stream.now rows.now count × (element < count)) }
     ensures { ContentAt edition stream.now rows.now element result }
 {
-    if rows[element * SCRATCH_WIDTH] != TEXT_UNIT {
-        return ContentFound::NoUnit;
+    if rows::kind_at(rows, element) != TEXT_UNIT {
+        return None;
     }
-    match letters::content_of(edition, stream, rows, element) {
-        Held::Part { first, past } => ContentFound::Content { first, past },
-        Held::Pieces { run } => ContentFound::Pieces { run },
-    }
+    Some(letters::content_of(edition, stream, rows, element))
 }
 
 // The content of an element: 20, or where it stands.
@@ -40,7 +34,7 @@ pub fn fetch_judged(
     element: usize,
     rows: &[u32],
     count: usize,
-) -> ContentFound
+) -> Option<Held>
     requires accepts { Accepts stream.now (tree_of stream.now) }
     requires letter_rows { LetterRows edition stream.now rows.now count }
     ensures { FindsContent edition stream.now element result }
@@ -48,7 +42,7 @@ pub fn fetch_judged(
     if element < count {
         return content_at(edition, stream, rows, element);
     }
-    ContentFound::NoUnit
+    None
 }
 
 // Where the content of an element stands, or the number of a refusal.
@@ -64,19 +58,19 @@ pub fn locate_judged(
     ensures { Fetches edition stream.now element result }
 {
     match fetch_judged(edition, stream, element, rows, count) {
-        ContentFound::Content { first, past } => Found {
+        Some(Held::Part { first, past }) => Found {
             number: 0,
             place: 0,
             first: first as u32,
             past: past as u32,
         },
-        ContentFound::NoUnit => Found {
+        None => Found {
             number: NO_UNIT,
             place: 0,
             first: 0,
             past: 0,
         },
-        ContentFound::Pieces { run: _ } => Found {
+        Some(Held::Pieces { run: _ }) => Found {
             number: IN_PIECES,
             place: 0,
             first: 0,
@@ -99,9 +93,9 @@ pub fn join_judged(
     ensures { JoinedOutcome edition stream.now element out.old result out.new }
 {
     match fetch_judged(edition, stream, element, rows, count) {
-        ContentFound::Content { first, past } => copy_part(stream, first, past, out),
-        ContentFound::Pieces { run } => copy_pieces(stream, run, out),
-        ContentFound::NoUnit => Copied {
+        Some(Held::Part { first, past }) => copy_part(stream, first, past, out),
+        Some(Held::Pieces { run }) => copy_pieces(stream, run, out),
+        None => Copied {
             number: NO_UNIT,
             place: 0,
             length: 0,

@@ -8,7 +8,6 @@ ghost use Rattle.answers.specs.Dating.{refused_dated, dated_as, Narrow, DateTell
 
 use super::Dated;
 use dates::DateFound;
-use runs::Met;
 
 // What is answered where there is no date to show.
 pub fn refused_date(number: u32, place: u32) -> Dated
@@ -26,18 +25,21 @@ pub fn refused_date(number: u32, place: u32) -> Dated
 }
 
 // A date that was looked for, in numbers of 32 bits.
-pub fn dated_as(found: DateFound) -> Dated
+pub fn dated_as(found: Result<DateFound, usize>) -> Dated
     requires { Narrow found }
     ensures { result ≡ dated_as found }
 {
-    Dated {
-        number: found.number as u32,
-        place: 0,
-        first: found.first as u32,
-        past: found.past as u32,
-        year: found.year as u32,
-        month: found.month as u32,
-        day: found.day as u32,
+    match found {
+        Ok(date) => Dated {
+            number: 0,
+            place: 0,
+            first: date.first as u32,
+            past: date.past as u32,
+            year: date.day.year as u32,
+            month: date.day.month as u32,
+            day: date.day.day as u32,
+        },
+        Err(number) => refused_date(number as u32, 0),
     }
 }
 
@@ -47,13 +49,7 @@ pub fn date_of_letter(stream: &[u8]) -> Dated
     ensures { (edition : Edition) → (ruled edition stream.now).number ≡ 0 → DateTells edition stream.now result }
 {
     match runs::meet(stream, runs::whole_stream(stream)) {
-        Met::End => refused_date(0, 0),
-        Met::Item {
-            code: _,
-            first: _,
-            past: _,
-            inner,
-            rest: _,
-        } => dated_as(dates::date_in(stream, inner)),
+        None => refused_date(0, 0),
+        Some(item) => dated_as(dates::date_in(stream, item.inner)),
     }
 }

@@ -8,7 +8,6 @@ ghost use Rattle.answers.specs.Dating.{FirstTells};
 use super::date::{dated_as, refused_date};
 use super::{Dated, FirstDated};
 use elements::Edition;
-use fronts::First;
 use octets::STREAM_LIMIT;
 use runs::Run;
 
@@ -22,11 +21,10 @@ fn date_in_first(edition: Edition, stream: &[u8], code: usize, inner: Run) -> Da
     ensures { FirstTells edition stream.now result }
 {
     let shape = elements::shape_of(edition, code);
-    let number = judging::early(0, code, shape.octet);
-    if number != 0 {
-        return refused_date(number as u32, 0);
+    match judging::early(0, code, shape.octet) {
+        Err(number) => refused_date(number as u32, 0),
+        Ok(()) => dated_as(dates::date_in(stream, inner)),
     }
-    dated_as(dates::date_in(stream, inner))
 }
 
 // The numbers of the answer.
@@ -40,8 +38,8 @@ fn first_numbers(edition: Edition, stream: &[u8]) -> Dated
         return refused_date(NO_PROFILE, 0);
     }
     match fronts::first_item(stream) {
-        First::Refused { number, place } => refused_date(number as u32, place as u32),
-        First::Item { code, inner } => date_in_first(edition, stream, code, inner),
+        Ok(first) => date_in_first(edition, stream, first.code, first.inner),
+        Err(refusal) => refused_date(refusal.number as u32, refusal.place as u32),
     }
 }
 

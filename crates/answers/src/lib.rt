@@ -4,18 +4,17 @@
 
 ghost use Rattle.std.specs.Prelude.{◌≡◌, length};
 ghost use Rattle.octets.specs.Walk.{walk_of};
+ghost use Rattle.octets.specs.Told.{ended};
 ghost use Rattle.rows.specs.Columns.{identifier_column};
 ghost use Rattle.rows.specs.Index.{Filed, BothFiled};
 ghost use Rattle.letters.specs.Scratch.{LetterRows};
 ghost use Rattle.answers.specs.Answers.{refused_check, CheckOutcome};
 ghost use Rattle.answers.specs.Questions.{told_with, check_told, located_told, refused_told};
-ghost use Rattle.answers.specs.Questions.{listed_of, text_read_of, sourced_of, Leaves, Roomy};
+ghost use Rattle.answers.specs.Questions.{Leaves, Roomy};
 
 use elements::Edition;
-use octets::Outcome;
 use order::Class;
 use reading::Side;
-use runs::Run;
 
 mod children; // children.rt: the children of a row
 mod content; // content.rt: the content of one element, as a part or copied
@@ -23,6 +22,7 @@ mod date; // date.rt: the date of the document
 mod first_date; // first_date.rt: the same by the first element alone
 mod in_order; // in_order.rt: the order of a letter, as number and place
 mod list; // list.rt: the reading list of a side
+mod replies; // replies.rt: each question's own answer, of what the work told
 mod sourcing; // sourcing.rt: where each octet of a side stands
 mod table; // table.rt: the lent table
 mod text; // text.rt: the whole reading of a side
@@ -36,7 +36,8 @@ use sourcing::sources_judged;
 pub use table::TABLE_WIDTH;
 use text::text_judged;
 
-// The numbers of refusals that come after rules 1 to 15, those of the questions themselves; 17 and 18 are crate normal's.
+// The numbers of refusals that come after rules 1 to 15, those of the questions themselves; 17 and 18 are crate normal's. They are numbers, since the
+// answers tell them so to C.
 const TOO_FEW_ROWS: u32 = 16;
 
 const LIST_TOO_SHORT: u32 = 19;
@@ -54,7 +55,9 @@ const CHILDREN_TOO_SHORT: u32 = 25;
 
 const SOURCES_TOO_SHORT: u32 = 31;
 
-// What the check answers. Number 0 is accepted.
+// The answers below are the C interface: structs in its layout, with a number that is 0 for accepted.
+
+// What the check answers.
 #[repr(C)]
 #[derive(Clone, Copy)]
 pub struct Checked {
@@ -195,14 +198,6 @@ pub struct Told {
     pub past: u32,
 }
 
-// What a fetch of content finds in a letter: a part of the stream, or pieces.
-#[derive(Clone, Copy)]
-pub enum ContentFound {
-    NoUnit,
-    Content { first: usize, past: usize },
-    Pieces { run: Run },
-}
-
 // What the check answers to a stream that is refused.
 pub fn refused_check(number: u32, place: u32, headers: u32) -> Checked
     ensures { result ≡ refused_check number place headers }
@@ -225,7 +220,7 @@ fn check_judged(
     count: usize,
     table: &mut [u32],
 ) -> Checked
-    requires stream_value { walk_of stream.now ≡ Outcome.Ended (length stream.now) headers }
+    requires stream_value { walk_of stream.now ≡ ended (length stream.now) headers }
     requires letter_rows { LetterRows edition stream.now rows.now count }
     requires filed { Filed stream.now rows.now identifier_column index.now count }
     ensures { CheckOutcome edition stream.now table.old result table.new }
@@ -290,57 +285,13 @@ fn tell_located(r: Found) -> Told
     }
 }
 
-// The sources' answer, of what was told.
-pub fn sourced_of(told: Told) -> Sourced
-    ensures { result ≡ sourced_of told }
-{
-    Sourced {
-        number: told.number,
-        place: told.place,
-        lines: told.listed,
-        sources: told.length,
-    }
-}
-
-// The whole reading's answer, of what was told.
-pub fn text_read_of(told: Told) -> TextRead
-    ensures { result ≡ text_read_of told }
-{
-    TextRead {
-        number: told.number,
-        place: told.place,
-        elements: told.elements,
-        lines: told.listed,
-        length: told.length,
-    }
-}
-
-// The list's answer, of what was told.
-pub fn listed_of(told: Told) -> Listed
-    ensures { result ≡ listed_of told }
-{
-    Listed {
-        number: told.number,
-        place: told.place,
-        elements: told.elements,
-        matches: told.listed,
-    }
-}
-
 // What rules 1 to 15 refuse, as the work of any question tells it: the check alone is told how many headers were read.
 pub fn tell_refused(question: Question, number: u32, place: u32, headers: u32) -> Told
     ensures { result ≡ refused_told question number place headers }
 {
     match question {
         Question::Check => tell_checked(refused_check(number, place, headers)),
-        Question::Rules => tell(number, place, 0, 0, 0),
-        Question::Content { element: _ } => tell(number, place, 0, 0, 0),
-        Question::Joined { element: _ } => tell(number, place, 0, 0, 0),
-        Question::List { side: _, room: _ } => tell(number, place, 0, 0, 0),
-        Question::Children { row: _, room: _ } => tell(number, place, 0, 0, 0),
-        Question::Order { class: _ } => tell(number, place, 0, 0, 0),
-        Question::Text { side: _, room: _ } => tell(number, place, 0, 0, 0),
-        Question::Sources { side: _ } => tell(number, place, 0, 0, 0),
+        _ => tell(number, place, 0, 0, 0),
     }
 }
 
@@ -358,7 +309,7 @@ pub fn work(
     flat: &mut [u32],
     out: &mut [u8],
 ) -> Told
-    requires s_value { walk_of s.now ≡ Outcome.Ended (length s.now) headers }
+    requires s_value { walk_of s.now ≡ ended (length s.now) headers }
     requires letter_rows { LetterRows edition s.now rows.now count }
     requires both_filed { BothFiled s.now rows.now index.now count }
     requires roomy { Roomy question s.now (length flat.old) }

@@ -42,10 +42,8 @@ pub fn fill(s: &[u8], rows: &[u32], index: &[u16], count: usize, table: &mut [u3
     requires count_le_most_elements { (count ≤ most_elements) × (count * table_width ≤ length table.old) }
     ensures { Fills s.now rows.now count table.old table.new }
 {
-    let mut j: usize = 0;
-    while j < count {
+    for j in 0..count {
         put_row(s, rows, index, count, j, table);
-        j += 1;
     }
 }
 
@@ -72,8 +70,7 @@ pub fn finish(
     requires count_bound { is_in number finishing ≡ true → count ≤ rows_lent table.old }
     ensures { table.new ≡ table_by edition stream.now table.old number }
 {
-    if !is_finishing(number) {
-        return;
+    if is_finishing(number) {
+        fill(stream, rows, index, count, table);
     }
-    fill(stream, rows, index, count, table);
 }

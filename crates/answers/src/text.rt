@@ -14,26 +14,21 @@ ghost use Rattle.answers.specs.TextSteps.{Listing, TextsFlat};
 use super::content::fetch_judged;
 use super::list::find_matches;
 use super::table::TABLE_WIDTH;
-use super::{COPY_TOO_SHORT, ContentFound, Listed, TextRead, table};
+use super::{COPY_TOO_SHORT, Listed, TextRead, table};
 use elements::Edition;
+use letters::Held;
 use reading::Side;
 
-fn wide(x: u32) -> usize
-    ensures { result ≡ x }
-{
-    x as usize
-}
-
-// How many octets the text of a unit has.
+// How many octets the text of a unit has. To measure and to put is a pass each: nothing is put before all texts are known to have room.
 fn text_length(edition: Edition, stream: &[u8], rows: &[u32], count: usize, unit: usize) -> usize
     requires accepts { Accepts stream.now (tree_of stream.now) }
     requires letter_rows { LetterRows edition stream.now rows.now count }
     ensures { result ≡ length (text_in edition stream.now unit) }
 {
     match fetch_judged(edition, stream, unit, rows, count) {
-        ContentFound::Content { first, past } => past - first,
-        ContentFound::Pieces { run } => pieces::joined_length(stream, run),
-        ContentFound::NoUnit => 0,
+        Some(Held::Part { first, past }) => past - first,
+        Some(Held::Pieces { run }) => pieces::joined_length(stream, run),
+        None => 0,
     }
 }
 
@@ -53,9 +48,9 @@ fn put_text(
     ensures out_after { out.new ≡ text_in edition stream.now unit ++ drop result out.old }
 {
     match fetch_judged(edition, stream, unit, rows, count) {
-        ContentFound::Content { first, past } => pieces::copy(&stream[first..past], out),
-        ContentFound::Pieces { run } => pieces::put_joined(stream, run, out),
-        ContentFound::NoUnit => 0,
+        Some(Held::Part { first, past }) => pieces::copy(&stream[first..past], out),
+        Some(Held::Pieces { run }) => pieces::put_joined(stream, run, out),
+        None => 0,
     }
 }
 
@@ -73,12 +68,10 @@ fn measure(
     requires listing { Listing edition stream.now numbers.now lines }
     ensures { result ≡ length (texts_of (text_in edition stream.now) (records_from numbers.now 0 lines)) }
 {
-    let mut k: usize = 0;
-    let mut total: usize = 0;
-    while k < lines {
-        let unit = wide(numbers[3 * k + 2]);
-        total = total + text_length(edition, stream, rows, count, unit);
-        k += 1;
+    let mut total = 0;
+    for k in 0..lines {
+        let unit = numbers[3 * k + 2] as usize;
+        total += text_length(edition, stream, rows, count, unit);
     }
     total
 }
@@ -100,13 +93,11 @@ fn put_texts(
     ensures { PutsTexts (text_in edition stream.now) numbers.old lines out.old numbers.new
         out.new }
 {
-    let mut k: usize = 0;
-    let mut done: usize = 0;
-    while k < lines {
-        let unit = wide(numbers[3 * k + 2]);
-        done = done + put_text(edition, stream, rows, count, unit, &mut out[done..]);
+    let mut done = 0;
+    for k in 0..lines {
+        let unit = numbers[3 * k + 2] as usize;
+        done += put_text(edition, stream, rows, count, unit, &mut out[done..]);
         numbers[3 * lines + k] = done as u32;
-        k += 1;
     }
 }
 
@@ -168,12 +159,12 @@ pub fn text_judged(
     let listed = find_matches(
         edition, stream, side, room, rows, index, count, lent, numbers,
     );
-    let found = wide(listed.matches);
+    let found = listed.matches as usize;
     let needed = measure(edition, stream, rows, count, numbers, found);
     let shown = answer(listed, needed, out.len());
     let names = rows::identifiers(index);
     table::finish(edition, stream, rows, names, count, shown.number, table);
-    let lines = wide(shown.lines);
+    let lines = shown.lines as usize;
     put_texts(edition, stream, rows, count, numbers, lines, out);
     shown
 }

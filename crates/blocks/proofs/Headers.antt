@@ -1,5 +1,6 @@
 -- A header is read the same from its own octets alone as in the letter (`same_head`), it has as many octets as `wanted` says (`as_wanted`),
 -- and its first octets tell whether more are wanted (`same-wanted`). Nothing else in this crate knows what a header looks like.
+use Rattle.std.specs.Prelude.{Result, Err}
 use mathlib.Core.Path.{◌≡◌, refl, ap, sym, ◌∙◌}
 use mathlib.Core.Bool.{Bool, true, false, cond}
 use mathlib.Core.List.{List, [], ◌∷◌, ◌++◌}
@@ -13,9 +14,8 @@ use borrow.Author.Tests.{leb-true, leb-false, le-leb, lt-leb, ltb-true, lt-ltb, 
 use Rattle.headers.specs.declared.Head.{Head}
 use Rattle.headers.specs.declared.Head.TheVariants.{Item, ClosingMark, Refusal}
 use Rattle.headers.specs.declared.Field.{Field}
-use Rattle.headers.specs.declared.Field.TheVariants.{Read, Wrong}
 use Rattle.headers.specs.Head.{number_bits, constructed, form_allowed, is_in, above_thirty, code_of, misfits, big_endian, octet_at}
-use Rattle.headers.specs.Head.{definite_at, indefinite_at, long_at, by_first, length_at, field_at, after_field, closing_at, item_at, head_at}
+use Rattle.headers.specs.Head.{read_field, definite_at, indefinite_at, long_at, by_first, length_at, field_at, after_field, closing_at, item_at, head_at}
 use Rattle.headers.proofs.Lies.{FieldRead, in_one, in_two, in_three, item-holds}
 use Rattle.laws.proofs.Tests.{cond-holds}
 use Rattle.blocks.specs.Engine.{further, field_size, header_size, wanted, whole, moved}
@@ -128,11 +128,11 @@ module _ (s b : List ℕ) (at limit left : ℕ) (l : limit ≡ at + left) where
           (λ _. refused 7)
 
       -- what follows the type field in the letter and among the octets of the header
-      abbrev Follows : Field → Field → Type 0
+      abbrev Follows : Result Field ℕ → Result Field ℕ → Type 0
       Follows x p = after_field s at limit x ≡ moved at (after_field b 0 left p)
 
       read_same : (code from size : ℕ) → from ≡ at + size → field_size b ≡ size → (test : Bool)
-          → Follows (cond test (Read code from) (Wrong 5)) (cond test (Read code size) (Wrong 5))
+          → Follows (cond test (read_field code from) (Err 5)) (cond test (read_field code size) (Err 5))
       read_same code from size e f test = both Follows test test refl (λ _. same_length code from size e f) (λ _. refused 5)
 
       same-field : Follows (field_at s (octet_at b 0) at limit) (field_at b (octet_at b 0) 0 left)

@@ -15,9 +15,7 @@ use Rattle.headers.specs.declared.Head.{Head}
 use Rattle.headers.specs.declared.Head.TheVariants.{Item, ClosingMark, Refusal}
 use Rattle.headers.specs.Head.{constructed, octet_at, head_at}
 use Rattle.laws.proofs.Tests.{cond-holds}
-use Rattle.octets.specs.declared.Outcome.{Outcome}
-use Rattle.octets.specs.declared.Outcome.TheVariants.{Ended, Refused}
-use Rattle.octets.specs.Told.{told}
+use Rattle.octets.specs.Told.{Outcome, ended as walk_ended, refused, told}
 use Rattle.octets.proofs.Turns.{header_ok, mark-ok}
 use Rattle.blocks.specs.Engine.{Open, Standing, reading, found, limit_of, marked_of, room_of, wanted, whole, moved, settle, arrive, enter, decide}
 use Rattle.blocks.specs.Engine.{in_header, onward}
@@ -85,7 +83,7 @@ module _ (letter : List ℕ) (tells : Outcome) where
       (λ m. settle-good taken k outer at n.1 (omega arith) t (sym (ended same m) ∙ e)))
       (λ b. let l = leb-false o.bound at b in (record { nested = n; within = w; going = λ _. l; come = omega arith }, e))
     where
-      unclosed : at ≡ o.bound → o.marked ≡ true → resume letter (o ∷ outer) k at ≡ Refused 7 o.bound k
+      unclosed : at ≡ o.bound → o.marked ≡ true → resume letter (o ∷ outer) k at ≡ refused 7 o.bound k
       unclosed p m = rw (p, m) (resume-unclosed letter o.bound outer k)
 
       ended : at ≡ o.bound → o.marked ≡ false → resume letter (o ∷ outer) k at ≡ resume letter outer k at
@@ -112,7 +110,7 @@ module _ (letter : List ℕ) (tells : Outcome) where
   Came taken at marked (Refusal number place) = Unit {0}
 
   mark-good : (taken k : ℕ) (opens : List Open) (at : ℕ) → Nested (length letter) opens → marked_of opens ≡ true
-      → at + 2 ≤ limit_of (length letter) opens → taken ≤ at + 2 → leave letter opens (Ended (at + 2) k) ≡ tells
+      → at + 2 ≤ limit_of (length letter) opens → taken ≤ at + 2 → leave letter opens (walk_ended (at + 2) k) ≡ tells
       → Good letter taken tells (arrive taken k (drop 1 opens) (at + 2))
   mark-good taken k [] at n m w t e = absurd (false≢true m)
   mark-good taken k (o ∷ outer) at n m w t e = arrive-good taken k outer (at + 2) n.1 (omega arith) t e
@@ -194,7 +192,7 @@ module _ (letter : List ℕ) (tells : Outcome) where
       (λ b. let a = leb-false (suc taken) at b in next-good taken l k opens at begun r (omega arith) e)
 
   end_reads : (k : ℕ) (opens : List Open) (at : ℕ) (begun : List ℕ) → Reads letter (length letter) opens at begun
-      → resume letter opens k at ≡ Ended (length letter) k
+      → resume letter opens k at ≡ walk_ended (length letter) k
   end_reads k [] at [] r =
       let e : at ≡ length letter = (let a = r.within in let b = r.come in omega arith) in
       rw e (resume-letter letter k)

@@ -222,12 +222,3 @@ module _ (value : List ℕ) (d : Day) (x : Names value d) where
   pub named : (names_day value ≡ true) × (day_at value ≡ d)
   unfolding names_day
   named = (rw (is-spelt, day-at-is, real-exists d x.real), day-at-is)
-
--- a day that is named has a year of 1 or more
-pub named-year : (value : List ℕ) → names_day value ≡ true → 1 ≤ (day_at value).year
-unfolding names_day exists
-named-year value e =
-    let d = day_at value in
-    let p = both_true (spells_ten value) (exists d) e in
-    let q = both_true (leb 1 d.year) (leb 1 d.day) (both_true _ (leb d.day (days_in d.year d.month)) p.1).0 in
-    leb-true 1 d.year q.0

@@ -1,23 +1,17 @@
 // Days of the Gregorian calendar, as the first ten octets of a value spell them: four, two and two digits with hyphens between.
 #![tactic(auto)]
 
-ghost use Rattle.std.specs.Prelude.{◌≡◌, true, cond, ◌+◌, ◌<◌, length};
-ghost use Rattle.calendar.specs.Calendar.{leap, days_in, exists, two_digits, two_number, spells_ten, day_at, names_day, no_day};
+ghost use Rattle.std.specs.Prelude.{◌≡◌, true, cond, Some, None, ◌+◌, ◌<◌, length};
+ghost use Rattle.calendar.specs.Calendar.{leap, days_in, exists, two_digits, two_number, spells_ten, day_at, names_day};
 
 const MONTH_DAYS: [u8; 13] = [0, 31, 28, 31, 30, 31, 30, 31, 31, 30, 31, 30, 31];
 
-// A day of the calendar; no day is 0, 0 and 0.
+// A day of the calendar.
 #[derive(Clone, Copy)]
 pub struct Day {
     pub year: usize,
     pub month: usize,
     pub day: usize,
-}
-
-fn wide(x: u8) -> usize
-    ensures { result ≡ x }
-{
-    x as usize
 }
 
 fn is_leap(year: usize) -> bool
@@ -33,13 +27,14 @@ fn is_leap(year: usize) -> bool
 }
 
 // The days of a month: 0 of what is no month.
+#[tactic(auto, unfolding(crate::specs::Calendar::days_in))]
 fn days_in(year: usize, month: usize) -> usize
     ensures { result ≡ days_in year month }
 {
-    if MONTH_DAYS.len() <= month {
+    let Some(&table_days) = MONTH_DAYS.get(month) else {
         return 0;
-    }
-    let days = wide(MONTH_DAYS[month]);
+    };
+    let days = table_days as usize;
     if month != 2 {
         return days;
     }
@@ -49,6 +44,7 @@ fn days_in(year: usize, month: usize) -> usize
     28
 }
 
+#[tactic(auto, unfolding(crate::specs::Calendar::exists))]
 fn is_day(d: Day) -> bool
     ensures { result ≡ exists d }
 {
@@ -61,6 +57,7 @@ fn is_day(d: Day) -> bool
     d.day <= days_in(d.year, d.month)
 }
 
+#[tactic(auto, unfolding(crate::specs::Calendar::two_digits))]
 fn is_two_digits(v: &[u8], i: usize) -> bool
     requires { i + 1 < length v.now }
     ensures { result ≡ two_digits v.now i }
@@ -71,14 +68,16 @@ fn is_two_digits(v: &[u8], i: usize) -> bool
     names::is_digit(v[i + 1])
 }
 
+#[tactic(auto, unfolding(crate::specs::Calendar::two_number))]
 fn two_number(v: &[u8], i: usize) -> usize
     requires { (i + 1 < length v.now) × (two_digits v.now i ≡ true) }
     ensures { result ≡ two_number v.now i }
 {
-    10 * (wide(v[i]) - 48) + (wide(v[i + 1]) - 48)
+    10 * ((v[i] as usize) - 48) + ((v[i + 1] as usize) - 48)
 }
 
 // Whether a value begins with four, two and two digits with hyphens between.
+#[tactic(auto, unfolding(crate::specs::Calendar::spells_ten))]
 fn is_spelt(v: &[u8]) -> bool
     ensures { result ≡ spells_ten v.now }
 {
@@ -104,6 +103,7 @@ fn is_spelt(v: &[u8]) -> bool
 }
 
 // The day that a value spells.
+#[tactic(auto, unfolding(crate::specs::Calendar::day_at))]
 fn day_at(v: &[u8]) -> Day
     requires { spells_ten v.now ≡ true }
     ensures { result ≡ day_at v.now }
@@ -115,24 +115,17 @@ fn day_at(v: &[u8]) -> Day
     }
 }
 
-// The day that the first ten octets of a value name, or no day.
-pub fn day_named(v: &[u8]) -> Day
-    ensures { result ≡ cond (names_day v.now) (day_at v.now) no_day }
+// The day that the first ten octets of a value name, if they name one.
+#[tactic(auto, unfolding(crate::specs::Calendar::names_day))]
+pub fn day_named(v: &[u8]) -> Option<Day>
+    ensures { result ≡ cond (names_day v.now) (Some (day_at v.now)) None }
 {
     if !is_spelt(v) {
-        return Day {
-            year: 0,
-            month: 0,
-            day: 0,
-        };
+        return None;
     }
     let d = day_at(v);
     if !is_day(d) {
-        return Day {
-            year: 0,
-            month: 0,
-            day: 0,
-        };
+        return None;
     }
-    d
+    Some(d)
 }

@@ -3,12 +3,13 @@ use Prim.Native.Nat.{ℕ, ◌+◌, ◌≤◌, ◌<◌}
 use native.Mathlib.Nat.{zero-add}
 use native.Mathlib.Omega.{arith}
 use mathlib.Core.Path.{◌≡◌, refl, sym, ap, ◌∙◌}
-use mathlib.Core.Bool.{Bool, true, false, cond, true≢false, false≢true}
+use mathlib.Core.Bool.{Bool, true, false, cond}
 use mathlib.Core.List.{List, ◌++◌}
 use lib.Dec.{leb}
 use lib.ListN.{length, drop}
 use lib.Seq.{sets, sets-eq}
 use borrow.Author.Tests.{le-leb, lt-leb, leb-true, leb-false}
+use Rattle.std.specs.Prelude.{Option, Some, None}
 use Rattle.characters.specs.declared.Sign.{Sign}
 use Rattle.characters.specs.declared.Size.{Size}
 use Rattle.characters.specs.Signs.{utf8_of, numbers_in, text_of, numbers_of}
@@ -16,30 +17,31 @@ use Rattle.characters.specs.Answers.{most, room_of, size, measured, shown, shown
 
 -- what was measured, told
 pub measured-fits : (xs : List Sign) (room here numbers : ℕ) → here ≡ length (utf8_of xs) → numbers ≡ numbers_in xs → here ≤ room →
-    size true here numbers ≡ measured xs room
+    Some (size here numbers) ≡ measured xs room
 measured-fits xs room here numbers ea eb h =
     let fits : length (utf8_of xs) ≤ room = omega arith in
-    rw (le-leb (length (utf8_of xs)) room fits) (ap (λ n. size true n numbers) ea ∙ ap (λ n. size true (length (utf8_of xs)) n) eb)
+    rw (le-leb (length (utf8_of xs)) room fits) (ap (λ n. Some (size n numbers)) ea ∙ ap (λ n. Some (size (length (utf8_of xs)) n)) eb)
 
-module _ (xs : List Sign) (room : ℕ) (m : Size) (e : m ≡ measured xs room) where
-  pub fits-means : m.fits ≡ true → (length (utf8_of xs) ≤ room) × (m.length ≡ length (utf8_of xs)) × (m.numbers ≡ numbers_in xs)
-  fits-means f = go (leb (length (utf8_of xs)) room) refl
+module _ (xs : List Sign) (room : ℕ) (m : Option Size) (e : m ≡ measured xs room) where
+  pub fits-means : (n : Size) → m ≡ Some n → (length (utf8_of xs) ≤ room) × (n.length ≡ length (utf8_of xs)) × (n.numbers ≡ numbers_in xs)
+  fits-means n f = go (leb (length (utf8_of xs)) room) refl
     where
-      go : (b : Bool) → leb (length (utf8_of xs)) room ≡ b → (length (utf8_of xs) ≤ room) × (m.length ≡ length (utf8_of xs)) × (m.numbers ≡ numbers_in xs)
+      go : (b : Bool) → leb (length (utf8_of xs)) room ≡ b → (length (utf8_of xs) ≤ room) × (n.length ≡ length (utf8_of xs)) × (n.numbers ≡ numbers_in xs)
       go true t =
-          let e' : m ≡ size true (length (utf8_of xs)) (numbers_in xs) = e ∙ rw t in
-          (leb-true (length (utf8_of xs)) room t, ap (λ (n : Size). n.length) e', ap (λ (n : Size). n.numbers) e')
+          let same : Some n ≡ Some (size (length (utf8_of xs)) (numbers_in xs)) = sym f ∙ (e ∙ rw t) in
+          let it : n ≡ size (length (utf8_of xs)) (numbers_in xs) = cc in
+          (leb-true (length (utf8_of xs)) room t, ap (λ (k : Size). k.length) it, ap (λ (k : Size). k.numbers) it)
       go false t =
-          let e' : m ≡ size false 0 0 = e ∙ rw t in
-          absurd (true≢false (sym f ∙ ap (λ (n : Size). n.fits) e'))
+          let none : Some n ≡ None = sym f ∙ (e ∙ rw t) in
+          absurd cc
 
-  pub not-fits : m.fits ≡ false → room < length (utf8_of xs)
+  pub not-fits : m ≡ None → room < length (utf8_of xs)
   not-fits f = go (leb (length (utf8_of xs)) room) refl
     where
       go : (b : Bool) → leb (length (utf8_of xs)) room ≡ b → room < length (utf8_of xs)
       go true t =
-          let e' : m ≡ size true (length (utf8_of xs)) (numbers_in xs) = e ∙ rw t in
-          absurd (false≢true (sym f ∙ ap (λ (n : Size). n.fits) e'))
+          let some : None ≡ Some (size (length (utf8_of xs)) (numbers_in xs)) = sym f ∙ (e ∙ rw t) in
+          absurd cc
       go false t = leb-false (length (utf8_of xs)) room t
 
 -- the room is no more than the output, and than what the answer counts

@@ -6,7 +6,7 @@ use mathlib.Core.Path.{◌≡◌, refl, sym, ap, subst, ◌∙◌}
 use mathlib.Core.Bool.{Bool, true, false, cond}
 use mathlib.Core.List.{List, [], ◌∷◌, ◌++◌}
 use lib.Dec.{ltb}
-use lib.ListN.{length, drop, get_or, length-append, length-drop, drop_of_length-le}
+use lib.ListN.{length, take, drop, get_or, length-append, length-drop, drop_of_length-le}
 use lib.Seq.{drop-cons, drop-drop}
 use borrow.Author.Tests.{lt-ltb, le-ltb, ltb-true, ltb-false}
 use Rattle.characters.specs.declared.Points.{Points}
@@ -161,3 +161,22 @@ module _ (s : ℕ) (xs : List ℕ) (at end : ℕ) (e : end ≡ at + length (plai
     pub sign_text : step_text s xs at ≡ octets_of (sign_at s xs at).points
     unfolding step_text
     sign_text = rw (le-ltb 0 (length run) short)
+
+-- a run is copied: it is what stands there, and stored at a place it stands between what was before it and past it
+front-first : (ys : List ℕ) → take (length (plain_front ys)) ys ≡ plain_front ys
+unfolding plain_front
+front-first [] = refl
+front-first (o ∷ os) = go (is_plain o) (front-first os)
+  where
+    go : (b : Bool) → take (length (plain_front os)) os ≡ plain_front os → take (length (cond b (o ∷ plain_front os) [])) (o ∷ os) ≡ cond b (o ∷ plain_front os) []
+    go true h = ap (λ r. o ∷ r) h
+    go false h = refl
+
+module _ (xs : List ℕ) (at end : ℕ) (e : end ≡ at + length (plain_front (drop at xs))) where
+  pub run-copied : take (end - at) (drop at xs) ≡ plain_front (drop at xs)
+  run-copied =
+      let long : end - at ≡ length (plain_front (drop at xs)) = omega arith in
+      rw long (front-first (drop at xs))
+
+  pub run_ends : at ≤ length xs → end ≤ length xs
+  run_ends h = omega (arith, front-short (drop at xs), length-drop at xs)

@@ -2,6 +2,8 @@
 pub mod Table
 -- the rules of the tables
 pub mod Rules
+-- sets by their numbers, and what is none
+pub mod Known
 -- the octets of a code point, and of a sign
 pub mod Utf8
 -- the signs from a place on

@@ -1,5 +1,5 @@
 -- What the question answers: the text at the front of the output and the octets past it as they were, or 18 and the output as it was.
-use Rattle.std.specs.Prelude.{ℕ, ◌≡◌, Bool, true, false, cond, List, ◌++◌, leb, length, drop}
+use Rattle.std.specs.Prelude.{ℕ, ◌≡◌, Bool, cond, List, ◌++◌, leb, length, drop, Option, Some, None}
 use Rattle.characters.specs.declared.Sign.{Sign}
 use Rattle.characters.specs.declared.Size.{Size}
 use Rattle.characters.specs.declared.Shown.{Shown}
@@ -12,12 +12,12 @@ most = 0xFFFFFFFF
 abbrev pub room_of : ℕ → ℕ
 room_of long = cond (leb long most) long most
 
-abbrev pub size : Bool → ℕ → ℕ → Size
-size f l n = record { fits = f; length = l; numbers = n }
+abbrev pub size : ℕ → ℕ → Size
+size l n = record { length = l; numbers = n }
 
 -- what signs take, where there is room
-abbrev pub measured : List Sign → ℕ → Size
-measured xs room = cond (leb (length (utf8_of xs)) room) (size true (length (utf8_of xs)) (numbers_in xs)) (size false 0 0)
+abbrev pub measured : List Sign → ℕ → Option Size
+measured xs room = cond (leb (length (utf8_of xs)) room) (Some (size (length (utf8_of xs)) (numbers_in xs))) None
 
 abbrev pub shown : ℕ → ℕ → ℕ → Shown
 shown number l n = record { number = number; place = 0; length = l; numbers = n }

@@ -1,6 +1,8 @@
 -- The three sets: 0 is ISO 6937, 1 is T.61, 2 is ISO 8859-1. What an octet alone is in each, as a code point; 0 where it is none.
 -- Not said here: C1 to CF of the first two, which are accents and stand before a letter (`Pairs`).
-use Rattle.std.specs.Prelude.{ℕ, ◌-◌, Bool, cond, not, ◌&&◌, ◌||◌, List, [], ◌∷◌, leb, eqb, get_or}
+use Rattle.std.specs.Prelude.{ℕ, ◌-◌, Bool, cond, not, ◌&&◌, ◌||◌, List, [], ◌∷◌, leb, eqb, get_or, Option, Some, None}
+use Rattle.characters.specs.declared.Set.{Set}
+use Rattle.characters.specs.declared.Set.TheVariants.{Iso6937, T61, Latin1}
 
 abbrev pub iso6937 : ℕ
 iso6937 = 0
@@ -10,6 +12,12 @@ t61 = 1
 
 abbrev pub latin1 : ℕ
 latin1 = 2
+
+-- a set's number
+abbrev pub number_of : Set → ℕ
+number_of Iso6937 = iso6937
+number_of T61 = t61
+number_of Latin1 = latin1
 
 -- any other number is taken as ISO 6937
 abbrev pub set_of : ℕ → ℕ
@@ -57,3 +65,7 @@ right_point s o = cond (eqb s latin1) o (get_or supplement (o - 0xA0) 0)
 -- an octet alone
 unfoldable pub point_of : ℕ → ℕ → ℕ
 point_of s o = cond (leb 0xA0 o) (right_point s o) (left_point s o)
+
+-- a code point, where it is one
+abbrev pub point_in : ℕ → Option ℕ
+point_in p = cond (eqb p 0) None (Some p)

@@ -1,5 +1,5 @@
 -- Octets as signs, in order: a sign is one octet or two, and is shown as a character, as a letter and its accent, as a line's end, or by its number, ⟦HH⟧.
-use Rattle.std.specs.Prelude.{ℕ, ◌+◌, ◌/◌, ◌%◌, Bool, cond, ◌&&◌, List, [], ◌∷◌, ◌++◌, ltb, eqb, length, get_or}
+use Rattle.std.specs.Prelude.{ℕ, ◌+◌, ◌/◌, ◌%◌, Bool, cond, ◌&&◌, List, [], ◌∷◌, ◌++◌, ltb, eqb, length, get_or, Option, Some, None}
 use Rattle.characters.specs.declared.Points.{Points}
 use Rattle.characters.specs.declared.Points.TheVariants.{One, Two, Number}
 use Rattle.characters.specs.declared.Sign.{Sign}
@@ -38,6 +38,10 @@ is_line_end a b = eqb a 0x0D && eqb b 0x0A
 -- an accent and its letter
 abbrev pub accented : ℕ → ℕ → ℕ → Points
 accented c a b = cond (eqb c 1) (Two b (combining a)) (One c)
+
+-- and what two octets are as one sign, by the number of their pair
+abbrev pub pair_in : ℕ → ℕ → ℕ → Option Points
+pair_in c a b = cond (eqb c 0) None (Some (accented c a b))
 
 abbrev pub sign : Points → ℕ → Sign
 sign x n = record { points = x; wide = n }

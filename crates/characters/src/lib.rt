@@ -4,7 +4,7 @@
 
 ghost use Rattle.std.specs.Prelude.{◌≡◌, ◌≤◌, length};
 ghost use Rattle.std.proofs.lemmas.List.Edits.{sets};
-ghost use Rattle.characters.specs.Sets.{set_of};
+ghost use Rattle.characters.specs.Sets.{number_of, set_of};
 ghost use Rattle.characters.specs.Pairs.{PairTable};
 ghost use Rattle.characters.specs.Signs.{signs, utf8_of};
 ghost use Rattle.characters.specs.Answers.{room_of, measured, ShownOutcome};
@@ -15,16 +15,31 @@ mod signs; // signs.rt: octets as signs
 mod steps; // steps.rt: a run of plain octets, or a sign
 mod tables; // tables.rt: the tables of the sets
 
-const ISO6937: usize = 0;
-
-const T61: usize = 1;
-
-const LATIN1: usize = 2;
-
 const OUTPUT_TOO_SHORT: u32 = 18;
 
 // The most octets that the answer's length can count.
 const MOST: usize = 0xFFFFFFFF;
+
+// A set of characters. The ghosts speak of it by its number.
+#[derive(Clone, Copy)]
+enum Set {
+    Iso6937,
+    T61,
+    Latin1,
+}
+
+// Any other number than those of the sets is taken as ISO 6937.
+impl From<u32> for Set {
+    ghost from_gives = { λ number set. number_of set ≡ set_of number };
+
+    fn from(number: u32) -> Set {
+        match number {
+            1 => Set::T61,
+            2 => Set::Latin1,
+            _ => Set::Iso6937,
+        }
+    }
+}
 
 // The code points of a sign.
 #[derive(Clone, Copy)]
@@ -52,10 +67,9 @@ pub struct Step {
     pub numbers: usize,
 }
 
-// What all octets take: whether there is room for it, how many octets, and how many are shown by their number.
+// What all octets take: how many octets, and how many are shown by their number.
 #[derive(Clone, Copy)]
 pub struct Size {
-    pub fits: bool,
     pub length: usize,
     pub numbers: usize,
 }
@@ -70,42 +84,18 @@ pub struct Shown {
     pub numbers: u32,
 }
 
-fn wide(x: u8) -> usize
-    ensures { result ≡ x }
-{
-    x as usize
-}
-
-fn point(x: u8) -> u16
-    ensures { result ≡ x }
-{
-    x as u16
-}
-
-// Any other number than those of the sets is taken as ISO 6937.
-fn set_of(set: u32) -> usize
-    ensures { result ≡ set_of set }
-{
-    if set <= 2 {
-        return set as usize;
-    }
-    ISO6937
-}
-
 // The room of an output.
 fn room_of(out: usize) -> usize
     ensures { result ≡ room_of out }
 {
-    if out <= MOST {
-        return out;
-    }
-    MOST
+    out.min(MOST)
 }
 
-// Measures what octets take, and adds nothing past the room.
-fn measure(set: usize, pairs: &[u16], octets: &[u8], room: usize) -> Size
+// Measures what octets take, if there is room for it, and adds nothing past the room. A step has one octet or more and tells the next place, so
+// the loop goes over no range.
+fn measure(set: Set, pairs: &[u16], octets: &[u8], room: usize) -> Option<Size>
     requires { PairTable pairs.now }
-    ensures { result ≡ measured (signs set octets.now) room }
+    ensures { result ≡ measured (signs (number_of set) octets.now) room }
 {
     let mut at: usize = 0;
     let mut here: usize = 0;
@@ -113,27 +103,22 @@ fn measure(set: usize, pairs: &[u16], octets: &[u8], room: usize) -> Size
     while at < octets.len() {
         let step = steps::step_at(set, pairs, octets, at);
         if room - here < step.length {
-            return Size {
-                fits: false,
-                length: 0,
-                numbers: 0,
-            };
+            return None;
         }
         here += step.length;
         numbers += step.numbers;
         at += step.wide;
     }
-    Size {
-        fits: true,
+    Some(Size {
         length: here,
         numbers,
-    }
+    })
 }
 
-// Writes what is known to fit.
-fn write(set: usize, pairs: &[u16], octets: &[u8], out: &mut [u8])
-    requires { PairTable pairs.now × (length (utf8_of (signs set octets.now)) ≤ length out.old) }
-    ensures { out.new ≡ sets out.old 0 (utf8_of (signs set octets.now)) }
+// Writes what is known to fit, step by step as it was measured.
+fn write(set: Set, pairs: &[u16], octets: &[u8], out: &mut [u8])
+    requires { PairTable pairs.now × (length (utf8_of (signs (number_of set) octets.now)) ≤ length out.old) }
+    ensures { out.new ≡ sets out.old 0 (utf8_of (signs (number_of set) octets.now)) }
 {
     let mut at: usize = 0;
     let mut here: usize = 0;
@@ -148,22 +133,21 @@ fn write(set: usize, pairs: &[u16], octets: &[u8], out: &mut [u8])
 pub fn show(set: u32, octets: &[u8], out: &mut [u8]) -> Shown
     ensures { ShownOutcome set octets.now out.old result out.new }
 {
-    let s = set_of(set);
+    let s = Set::from(set);
     let pairs = pairing::PAIRS;
-    let size = measure(s, &pairs, octets, room_of(out.len()));
-    if size.fits {
-        write(s, &pairs, octets, out);
+    let Some(size) = measure(s, &pairs, octets, room_of(out.len())) else {
         return Shown {
-            number: 0,
+            number: OUTPUT_TOO_SHORT,
             place: 0,
-            length: size.length as u32,
-            numbers: size.numbers as u32,
+            length: 0,
+            numbers: 0,
         };
-    }
+    };
+    write(s, &pairs, octets, out);
     Shown {
-        number: OUTPUT_TOO_SHORT,
+        number: 0,
         place: 0,
-        length: 0,
-        numbers: 0,
+        length: size.length as u32,
+        numbers: size.numbers as u32,
     }
 }

@@ -4,7 +4,7 @@ ghost use Rattle.std.proofs.lemmas.List.Edits.{sets};
 ghost use Rattle.characters.specs.Utf8.{utf8};
 ghost use Rattle.characters.specs.Signs.{hex_digit, number_octets, octets_of, is_number};
 
-use super::{Points, point};
+use super::Points;
 
 // How many octets a code point takes.
 fn point_width(p: u16) -> usize
@@ -75,9 +75,9 @@ fn hex(v: u8) -> u16
     ensures { result ≡ hex_digit v }
 {
     if v < 10 {
-        return 48 + point(v);
+        return 48 + v as u16;
     }
-    55 + point(v)
+    55 + (v as u16)
 }
 
 // Writes an octet by its number.

@@ -1,9 +1,10 @@
 // The tables of the sets, and what is looked up in them.
 ghost use Rattle.std.specs.Prelude.{◌≡◌, ◌≤◌, ◌<◌};
-ghost use Rattle.characters.specs.Sets.{is_own, is_plain, is_currency, left_point, right_point, point_of};
+ghost use Rattle.characters.specs.Sets.{number_of, point_in, is_own, is_plain, is_currency, left_point, right_point, point_of};
 ghost use Rattle.characters.specs.Pairs.{composed, combining, pair_of, PairTable};
+ghost use Rattle.characters.specs.Signs.{pair_in};
 
-use super::{LATIN1, T61, point, wide};
+use super::{Points, Set};
 
 // The code points of the octets A0 to FF of ISO 6937 and T.61; 0 where there is none.
 const SUPPLEMENT: [u16; 96] = [
@@ -46,42 +47,43 @@ pub fn is_plain(octet: u8) -> bool
 }
 
 // Whether an octet is T.61's currency sign in the place of the dollar.
-fn is_currency(set: usize, octet: u8) -> bool
-    ensures { result ≡ is_currency set octet }
+fn is_currency(set: Set, octet: u8) -> bool
+    ensures { result ≡ is_currency (number_of set) octet }
 {
-    if set == T61 {
-        return octet == 0x24;
+    match set {
+        Set::T61 => octet == 0x24,
+        Set::Latin1 => false,
+        Set::Iso6937 => false,
     }
-    false
 }
 
 // The code point of an octet up to 9F.
-fn left_point(set: usize, octet: u8) -> u16
-    ensures { result ≡ left_point set octet }
+fn left_point(set: Set, octet: u8) -> u16
+    ensures { result ≡ left_point (number_of set) octet }
 {
     if is_currency(set, octet) {
         return 0xA4;
     }
     if is_own(octet) {
-        return point(octet);
+        return octet as u16;
     }
     0
 }
 
 // The code point of an octet from A0 on.
-fn right_point(set: usize, octet: u8) -> u16
+fn right_point(set: Set, octet: u8) -> u16
     requires { 0xA0 ≤ octet }
-    ensures { result ≡ right_point set octet }
+    ensures { result ≡ right_point (number_of set) octet }
 {
-    if set == LATIN1 {
-        return point(octet);
+    match set {
+        Set::Latin1 => octet as u16,
+        _ => SUPPLEMENT[(octet - 0xA0) as usize],
     }
-    SUPPLEMENT[wide(octet - 0xA0)]
 }
 
-// The code point of an octet alone; 0 where the set has none.
-pub fn point_of(set: usize, octet: u8) -> u16
-    ensures { result ≡ point_of set octet }
+// The code point of an octet alone, as the tables tell it: 0 where the set has none.
+fn told_point(set: Set, octet: u8) -> u16
+    ensures { result ≡ point_of (number_of set) octet }
 {
     if 0xA0 <= octet {
         return right_point(set, octet);
@@ -89,7 +91,18 @@ pub fn point_of(set: usize, octet: u8) -> u16
     left_point(set, octet)
 }
 
-// What an accent and the octet after it are, by the lent table.
+// The code point of an octet alone, if the set has one.
+pub fn point_of(set: Set, octet: u8) -> Option<u16>
+    ensures { result ≡ point_in (point_of (number_of set) octet) }
+{
+    let p = told_point(set, octet);
+    if p == 0 {
+        return None;
+    }
+    Some(p)
+}
+
+// What an accent and the octet after it are, by the lent table: its number stays as the table has it.
 fn composed_of(pairs: &[u16], a: u8, b: u8) -> u16
     requires { PairTable pairs.now }
     ensures { result ≡ composed a b }
@@ -101,7 +114,7 @@ fn composed_of(pairs: &[u16], a: u8, b: u8) -> u16
         return 0;
     }
     if b == 0x20 {
-        return pairs[wide(a - 0xC0) * 64];
+        return pairs[((a - 0xC0) as usize) * 64];
     }
     if b <= 0x40 {
         return 0;
@@ -109,24 +122,28 @@ fn composed_of(pairs: &[u16], a: u8, b: u8) -> u16
     if 0x7F < b {
         return 0;
     }
-    pairs[wide(a - 0xC0) * 64 + wide(b - 0x40)]
+    pairs[((a - 0xC0) as usize) * 64 + ((b - 0x40) as usize)]
 }
 
-// What an accent and the octet after it are in a set: ISO 8859-1 has no accents.
-pub fn pair_of(set: usize, pairs: &[u16], a: u8, b: u8) -> u16
+// What an accent and the octet after it are in a set, if they are a pair: ISO 8859-1 has no accents.
+pub fn pair_of(set: Set, pairs: &[u16], a: u8, b: u8) -> Option<Points>
     requires { PairTable pairs.now }
-    ensures { result ≡ pair_of set a b }
+    ensures { result ≡ pair_in (pair_of (number_of set) a b) a b }
 {
-    if set == LATIN1 {
-        return 0;
+    match set {
+        Set::Latin1 => None,
+        _ => match composed_of(pairs, a, b) {
+            0 => None,
+            1 => Some(Points::Two(b as u16, combining_of(a))),
+            c => Some(Points::One(c)),
+        },
     }
-    composed_of(pairs, a, b)
 }
 
 // The combining accent of an accent.
-pub fn combining_of(a: u8) -> u16
+fn combining_of(a: u8) -> u16
     requires { (0xC0 ≤ a) × (a ≤ 0xCF) }
     ensures { result ≡ combining a }
 {
-    ACCENTS[wide(a - 0xC0)]
+    ACCENTS[(a - 0xC0) as usize]
 }

@@ -11,6 +11,7 @@ use Rattle.headers.proofs.Fields.{code-field}
 use Rattle.octets.specs.Walk.{no_items}
 use Rattle.tree.specs.Tree.{Tree, formed}
 use Rattle.runs.specs.declared.Run.{Run}
+use Rattle.std.specs.Prelude.{Option}
 use Rattle.runs.specs.declared.Met.{Met}
 use Rattle.runs.specs.Runs.{items_of, tree_in, Meets}
 use Rattle.runs.proofs.Laws.{tree-meets, tree-none}
@@ -20,7 +21,7 @@ use Rattle.contents.specs.First.{IsFirst, Lacks}
 use Rattle.contents.specs.Opening.{Begins}
 
 -- what `meet` gave, once its case is known
-pub met : (s : List ℕ) (r : Run) {x y : Met} → Meets s r x → x ≡ y → Meets s r y
+pub met : (s : List ℕ) (r : Run) {x y : Option Met} → Meets s r x → x ≡ y → Meets s r y
 met s r m e = subst (Meets s r) e m
 
 -- an item's type field is the sought one exactly if the codes are equal
@@ -63,9 +64,6 @@ pub record Alike (s : List ℕ) (octet : ℕ) (from to : Run) : Type 0 where
   pub items : items_in octet (items_of s from) ≡ items_in octet (items_of s to)
   pub value : first_value octet (tree_in s from) ≡ first_value octet (tree_in s to)
   pub tree : first_run octet (tree_in s from) ≡ first_run octet (tree_in s to)
-
-pub same-search : (s : List ℕ) (octet : ℕ) (r : Run) → Alike s octet r r
-same-search s octet r = record { amounts = refl; bounds = refl; items = refl; value = refl; tree = refl }
 
 module _ {s : List ℕ} {octet : ℕ} {from to : Run} (a : Alike s octet from to) where
   pub alike-on : {rest : Run} → Alike s octet to rest → Alike s octet from rest

@@ -14,9 +14,9 @@ use Rattle.contents.specs.declared.Tally.{Tally}
 use Rattle.contents.specs.declared.Sought.{Sought}
 use Rattle.contents.specs.Search.{amount}
 use Rattle.contents.specs.Opening.{Begins}
-use Rattle.contents.specs.Gather.{Gathers, unseen, seen_with, gathered_from}
+use Rattle.contents.specs.Gather.{Gathers, seen_with, gathered_from}
 use Rattle.contents.proofs.Firsts.{amount-of-item, amount-at-end}
-use Rattle.contents.proofs.Seeing.{Sees, sees-nothing, sees_more, kept, counted}
+use Rattle.contents.proofs.Seeing.{Sees, sees_more, kept, counted}
 
 -- what was seen from the run `from` up to the run `to`, which is what is left of it
 pub record Gathering (s : List ℕ) (sought : Sought) (from to : Run) (identifier logical portions : Tally) (barred : ℕ) : Type 0 where
@@ -28,20 +28,9 @@ pub record Gathering (s : List ℕ) (sought : Sought) (from to : Run) (identifie
   pub total : barred + (amount sought.never (tree_in s to) + amount sought.neither (tree_in s to))
       ≡ amount sought.never (tree_in s from) + amount sought.neither (tree_in s from)
 
-pub at_most_one : (b : Bool) → cond {A = ℕ} b 1 0 ≤ 1
+at_most_one : (b : Bool) → cond {A = ℕ} b 1 0 ≤ 1
 at_most_one true = omega arith
 at_most_one false = omega arith
-
-pub gathering-nothing : (s : List ℕ) (sought : Sought) (r : Run) → Fine s r → Gathering s sought r r unseen unseen unseen 0
-gathering-nothing s sought r f =
-    record {
-      fine = f;
-      identifier_seen = sees-nothing s sought.identifier r f;
-      logical_seen = sees-nothing s sought.logical r f;
-      portions_seen = sees-nothing s sought.portions r f;
-      bound = omega (arith, f.inside);
-      total = omega arith;
-    }
 
 module _ (s : List ℕ) (sought : Sought) (from to : Run) (identifier logical portions : Tally) (barred : ℕ)
     (g : Gathering s sought from to identifier logical portions barred) where

@@ -2,7 +2,7 @@
 use mathlib.Core.Path.{◌≡◌, refl, sym, ap, ◌∙◌}
 use mathlib.Core.Bool.{Bool, true, false, not, ◌&&◌, ◌||◌, and-true, and-false, or-false, false≢true}
 use mathlib.Core.List.{List}
-use Prim.Native.Nat.{ℕ, zero, suc, ◌≤◌}
+use Prim.Native.Nat.{ℕ, zero, suc, ◌<◌, ◌≤◌}
 use native.Mathlib.Omega.{arith}
 use lib.Dec.{eqb}
 use Rattle.headers.specs.Head.{constructed, type_field}
@@ -97,11 +97,11 @@ filled (suc zero) p q one two = eqb p one.octet && not two.needed || not one.nee
 filled (suc (suc zero)) p q one two = eqb p one.octet && eqb q two.octet
 filled (suc (suc (suc n))) p q one two = false
 
-pub filled_more : (n p q : ℕ) (one two : Slot) → (n ≡ 2 → ⊥) → (n ≡ 1 → ⊥) → (n ≡ 0 → ⊥) → false ≡ filled n p q one two
-filled_more zero p q one two t o z = absurd (z refl)
-filled_more (suc zero) p q one two t o z = absurd (o refl)
-filled_more (suc (suc zero)) p q one two t o z = absurd (t refl)
-filled_more (suc (suc (suc n))) p q one two t o z = refl
+pub filled_more : (n p q : ℕ) (one two : Slot) → 2 < n → false ≡ filled n p q one two
+filled_more zero p q one two more = absurd (omega arith)
+filled_more (suc zero) p q one two more = absurd (omega arith)
+filled_more (suc (suc zero)) p q one two more = absurd (omega arith)
+filled_more (suc (suc (suc n))) p q one two more = refl
 
 module _ (s : List ℕ) (r : Run) (o : Opening) (x y : Slot) where
   abbrev by_count : ℕ → Bool

@@ -1,30 +1,25 @@
 -- The items of an opening, one after the other: the first with the octet is the run's, and if neither has it, the run has none.
-use mathlib.Core.Path.{◌≡◌, subst}
+use mathlib.Core.Path.{◌≡◌}
 use mathlib.Core.List.{List}
 use Prim.Native.Nat.{ℕ, ◌<◌, ◌≤◌}
 use native.Mathlib.Omega.{arith}
 use Rattle.runs.specs.declared.Run.{Run}
-use Rattle.contents.specs.declared.PartFound.{PartFound}
 use Rattle.contents.specs.declared.Opening.{Opening}
 use Rattle.contents.specs.First.{IsFirst, Lacks}
-use Rattle.contents.specs.Opening.{Opens, FoundIn, nothing, single, several, ends_here, goes_on}
+use Rattle.contents.specs.Opening.{Opens, nothing, single, several, ends_here, goes_on}
 use Rattle.contents.proofs.Firsts.{holds-before, lacks-before, lacks-at-end, alike-after, holds-here}
 
--- what `part_with` found, once its case is known
-pub found : (s : List ℕ) (r : Run) (octet : ℕ) {x y : PartFound} → FoundIn s r octet x → x ≡ y → FoundIn s r octet y
-found s r octet f e = subst (FoundIn s r octet) e f
-
 module _ (octet : ℕ) (o : Opening) (s : List ℕ) (r : Run) where
-  pub one_holds : (o.count ≡ 0 → ⊥) → o.one.code ≡ octet → Opens s r o → IsFirst s r octet o.one
-  one_holds some h (nothing z e) = absurd (some z)
+  pub one_holds : 0 < o.count → o.one.code ≡ octet → Opens s r o → IsFirst s r octet o.one
+  one_holds some h (nothing z e) = absurd (omega arith)
   one_holds some h (single rest z m e) = holds-here s r o.one rest m octet h
   one_holds some h (several rest last m n k) = holds-here s r o.one rest m octet h
 
-  pub two-holds : (o.count ≡ 0 → ⊥) → (o.count ≡ 1 → ⊥) → (o.one.code ≡ octet → ⊥) → o.two.code ≡ octet
+  pub two-holds : 1 < o.count → (o.one.code ≡ octet → ⊥) → o.two.code ≡ octet
       → Opens s r o → IsFirst s r octet o.two
-  two-holds some more h g (nothing z e) = absurd (some z)
-  two-holds some more h g (single rest z m e) = absurd (more z)
-  two-holds some more h g (several rest last m n k) =
+  two-holds more h g (nothing z e) = absurd (omega arith)
+  two-holds more h g (single rest z m e) = absurd (omega arith)
+  two-holds more h g (several rest last m n k) =
       holds-before (alike-after s r o.one rest m octet h) (holds-here s rest o.two last n octet g)
 
   pub neither-holds : (0 < o.count → o.one.code ≡ octet → ⊥) → (1 < o.count → o.two.code ≡ octet → ⊥)

@@ -18,8 +18,8 @@ use Rattle.contents.specs.declared.Tally.{Tally}
 use Rattle.contents.specs.Search.{amount, first_run, bounds_of, items_in}
 use Rattle.contents.specs.First.{span_of, IsFirst, Lacks}
 use Rattle.contents.specs.Opening.{no_part, Begins}
-use Rattle.contents.specs.Gather.{Counted, unseen, earlier, seen_with}
-use Rattle.contents.proofs.Firsts.{Alike, same-search, alike-on, holds-before, lacks-before, lacks-at-end, amount-at-end, amount-of-item, alike-after}
+use Rattle.contents.specs.Gather.{Counted, earlier, seen_with}
+use Rattle.contents.proofs.Firsts.{Alike, alike-on, holds-before, lacks-before, lacks-at-end, amount-at-end, amount-of-item, alike-after}
 use Rattle.contents.proofs.Firsts.{holds-here}
 
 -- x is what was seen of the octet from the run `from` up to the run `to`, which is what is left of it
@@ -28,15 +28,6 @@ pub record Sees (s : List ℕ) (octet : ℕ) (from to : Run) (x : Tally) : Type 
   pub total : x.amount + amount octet (tree_in s to) ≡ amount octet (tree_in s from)
   pub not_yet : x.amount ≡ 0 → (x.part ≡ no_part) × Alike s octet from to
   pub seen : (x.amount ≡ 0 → ⊥) → IsFirst s from octet x.part
-
-pub sees-nothing : (s : List ℕ) (octet : ℕ) (r : Run) → Fine s r → Sees s octet r r unseen
-sees-nothing s octet r f =
-    record {
-      bound = omega (arith, f.inside);
-      total = omega arith;
-      not_yet = λ z. (refl, same-search s octet r);
-      seen = λ n. absurd (n refl);
-    }
 
 module _ (s : List ℕ) (octet : ℕ) (from to : Run) (x : Tally) (p : Part) (rest : Run) (m : Begins s to p rest) (k : Sees s octet from to x) where
   sees-one : eqb p.code octet ≡ true

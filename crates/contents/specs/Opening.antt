@@ -1,13 +1,11 @@
 -- The first two items of a run, and whether there are more. An element of document 01 has at most two items, but for the profile and the
 -- styles, whose items are free.
-use Rattle.std.specs.Prelude.{◌≡◌, List, ℕ, ◌≤◌}
+use Rattle.std.specs.Prelude.{◌≡◌, List, ℕ, ◌≤◌, Option, Some, None}
 use Rattle.octets.specs.Walk.{no_items}
 use Rattle.runs.specs.declared.Run.{Run}
 use Rattle.runs.specs.Runs.{items_of, definite_run, Meeting}
 use Rattle.contents.specs.declared.Part.{Part}
 use Rattle.contents.specs.declared.Opening.{Opening}
-use Rattle.contents.specs.declared.PartFound.{PartFound}
-use Rattle.contents.specs.declared.PartFound.TheVariants.{At, Missing}
 use Rattle.contents.specs.First.{IsFirst, Lacks}
 
 -- a part that is not there: nothing, in a run with no item
@@ -30,10 +28,10 @@ pub data Opens (s : List ℕ) (r : Run) (o : Opening) : Type 0 where
   several : (rest last : Run) → Begins s r o.one rest → Begins s rest o.two last → CountsOn s last o.count → Opens s r o
 
 -- the first item of a run with the octet, if it has one
-abbrev pub FoundIn : List ℕ → Run → (octet : ℕ) → PartFound → Type 0
-FoundIn s r octet (At p) = IsFirst s r octet p
-FoundIn s r octet Missing = Lacks s r octet
+abbrev pub FoundIn : List ℕ → Run → (octet : ℕ) → Option Part → Type 0
+FoundIn s r octet (Some p) = IsFirst s r octet p
+FoundIn s r octet None = Lacks s r octet
 
 -- what was found in an opening is what its run has, if that has no more than two items
-abbrev pub FindsPart : Opening → (octet : ℕ) → PartFound → Type 0
+abbrev pub FindsPart : Opening → (octet : ℕ) → Option Part → Type 0
 FindsPart o octet found = (s : List ℕ) (r : Run) → Opens s r o → o.count ≤ 2 → FoundIn s r octet found

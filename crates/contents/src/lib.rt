@@ -8,7 +8,7 @@ ghost use Rattle.contents.specs.First.{span_of};
 ghost use Rattle.contents.specs.Opening.{no_part, Begins, Opens, CountsOn, FoundIn, FindsPart};
 ghost use Rattle.contents.specs.Gather.{Gathers, unseen, earlier, seen_with, gathered_from};
 
-use runs::{Met, Run};
+use runs::Run;
 
 // The bounds of a value; absent is 0 and 0.
 #[derive(Clone, Copy)]
@@ -26,7 +26,8 @@ pub struct Part {
     pub inner: Run,
 }
 
-// How many items a run has, 3 for more than two, and the first two of them.
+// How many items a run has, 3 for more than two, and the first two of them. An enum would be no plainer: more than two have a first two as
+// well, and each reader of the first would name every variant that has it.
 #[derive(Clone, Copy)]
 pub struct Opening {
     pub count: usize,
@@ -41,15 +42,8 @@ pub struct Slot {
     pub needed: bool,
 }
 
-// The first item with an octet, or none.
-#[derive(Clone, Copy)]
-pub enum PartFound {
-    At(Part),
-    Missing,
-}
-
 // The octets that matter in the run that names an element: its identifier, its logical identifier, its portions, and two that may
-// not stand there. 0 is none.
+// not stand there. 0 is none: no item has it, so a pass need not test for it, as it would an `Option`.
 #[derive(Clone, Copy)]
 pub struct Sought {
     pub identifier: usize,
@@ -59,7 +53,8 @@ pub struct Sought {
     pub neither: usize,
 }
 
-// How often each of them stands there, and the first one's value; `list` is the run of the portions.
+// How often each of them stands there, and the first one's value; `list` is the run of the portions. The bounds are no `Option`: they go as
+// they are into lent tables, where absent is 0 and 0.
 #[derive(Clone, Copy)]
 pub struct Gathered {
     pub identifiers: usize,
@@ -72,7 +67,7 @@ pub struct Gathered {
     pub barred: usize,
 }
 
-// How many items with one octet were seen, and the first of them.
+// How many items with one octet were seen, and the first of them. The amount says more than an `Option` of the part would, and is told.
 #[derive(Clone, Copy)]
 struct Tally {
     amount: usize,
@@ -127,14 +122,8 @@ fn count_after_two(s: &[u8], last: Run) -> usize
     ensures { CountsOn s.now last result }
 {
     match runs::meet(s, last) {
-        Met::End => 2,
-        Met::Item {
-            code: _,
-            first: _,
-            past: _,
-            inner: _,
-            rest: _,
-        } => 3,
+        None => 2,
+        Some(_) => 3,
     }
 }
 
@@ -144,24 +133,18 @@ fn opening_after(s: &[u8], one: Part, rest: Run) -> Opening
     ensures { (r : Run) → Begins s.now r one rest → Opens s.now r result }
 {
     match runs::meet(s, rest) {
-        Met::End => {
+        None => {
             Opening {
                 count: 1,
                 one,
                 two: no_part(),
             }
         }
-        Met::Item {
-            code,
-            first,
-            past,
-            inner,
-            rest: last,
-        } => {
+        Some(item) => {
             Opening {
-                count: count_after_two(s, last),
+                count: count_after_two(s, item.rest),
                 one,
-                two: part_of(code, first, past, inner),
+                two: part_of(item.code, item.first, item.past, item.inner),
             }
         }
     }
@@ -173,44 +156,26 @@ pub fn opening_of(s: &[u8], r: Run) -> Opening
     ensures { Opens s.now r result }
 {
     match runs::meet(s, r) {
-        Met::End => {
+        None => {
             Opening {
                 count: 0,
                 one: no_part(),
                 two: no_part(),
             }
         }
-        Met::Item {
-            code,
-            first,
-            past,
-            inner,
-            rest,
-        } => opening_after(s, part_of(code, first, past, inner), rest),
+        Some(item) => opening_after(
+            s,
+            part_of(item.code, item.first, item.past, item.inner),
+            item.rest,
+        ),
     }
-}
-
-// Whether an item alone is the second of two slots.
-fn fills_second(code: usize, one: Slot, two: Slot) -> bool
-    ensures { result ≡ (not one.needed && eqb code two.octet) }
-{
-    if one.needed {
-        return false;
-    }
-    code == two.octet
 }
 
 // Whether an item alone is the first of two slots, or the second.
 fn fills_either(code: usize, one: Slot, two: Slot) -> bool
     ensures { result ≡ (eqb code one.octet && not two.needed || not one.needed && eqb code two.octet) }
 {
-    if code == one.octet {
-        if !two.needed {
-            return true;
-        }
-        return fills_second(code, one, two);
-    }
-    fills_second(code, one, two)
+    code == one.octet && !two.needed || !one.needed && code == two.octet
 }
 
 // Whether an opening has an item for each of two slots in order, or none where it is not needed, and no others. Contents that are
@@ -218,72 +183,40 @@ fn fills_either(code: usize, one: Slot, two: Slot) -> bool
 pub fn fills(o: Opening, one: Slot, two: Slot) -> bool
     ensures { (s : List ℕ) (r : Run) → Opens s r o → result ≡ in_order one two (tree_in s r) }
 {
-    let first = o.one;
-    let second = o.two;
-    let count = o.count;
-    if count == 2 {
-        if first.code == one.octet {
-            return second.code == two.octet;
-        }
-        return false;
+    match o.count {
+        0 => !one.needed && !two.needed,
+        1 => fills_either(o.one.code, one, two),
+        2 => o.one.code == one.octet && o.two.code == two.octet,
+        _ => false,
     }
-    if count == 1 {
-        return fills_either(first.code, one, two);
-    }
-    if count == 0 {
-        if one.needed {
-            return false;
-        }
-        return !two.needed;
-    }
-    false
 }
 
 // The first of an opening's items with the octet: the object type, the run that names an element, the content.
-pub fn part_with(o: Opening, octet: usize) -> PartFound
+pub fn part_with(o: Opening, octet: usize) -> Option<Part>
     ensures { FindsPart o octet result }
 {
-    let one = o.one;
-    let two = o.two;
-    let count = o.count;
-    if count == 0 {
-        return PartFound::Missing;
+    if o.count > 0 && o.one.code == octet {
+        return Some(o.one);
     }
-    if one.code == octet {
-        return PartFound::At(one);
+    if o.count > 1 && o.two.code == octet {
+        return Some(o.two);
     }
-    if count == 1 {
-        return PartFound::Missing;
-    }
-    if two.code == octet {
-        return PartFound::At(two);
-    }
-    PartFound::Missing
+    None
 }
 
 // The first item of a run with the octet. A content that is asked for alone is found by this.
-pub fn first_with(s: &[u8], r: Run, sought: usize) -> PartFound
+pub fn first_with(s: &[u8], r: Run, sought: usize) -> Option<Part>
     requires { Fine s.now r }
     ensures { FoundIn s.now r sought result }
 {
     let mut cur = r;
-    loop {
-        match runs::meet(s, cur) {
-            Met::End => return PartFound::Missing,
-            Met::Item {
-                code,
-                first,
-                past,
-                inner,
-                rest,
-            } => {
-                if code == sought {
-                    return PartFound::At(part_of(code, first, past, inner));
-                }
-                cur = rest;
-            }
+    while let Some(item) = runs::meet(s, cur) {
+        if item.code == sought {
+            return Some(part_of(item.code, item.first, item.past, item.inner));
         }
+        cur = item.rest;
     }
+    None
 }
 
 // Nothing was seen.
@@ -375,24 +308,14 @@ pub fn gather(s: &[u8], r: Run, sought: Sought) -> Gathered
     let mut logical = none;
     let mut portions = none;
     let mut barred: usize = 0;
-    loop {
-        match runs::meet(s, cur) {
-            Met::End => return gathered_from(identifier, logical, portions, barred),
-            Met::Item {
-                code,
-                first,
-                past,
-                inner,
-                rest,
-            } => {
-                let p = part_of(code, first, past, inner);
-                identifier = seen_with(identifier, sought.identifier, p);
-                logical = seen_with(logical, sought.logical, p);
-                portions = seen_with(portions, sought.portions, p);
-                barred = counted_with(barred, sought.never, p.code);
-                barred = counted_with(barred, sought.neither, p.code);
-                cur = rest;
-            }
-        }
+    while let Some(item) = runs::meet(s, cur) {
+        let p = part_of(item.code, item.first, item.past, item.inner);
+        identifier = seen_with(identifier, sought.identifier, p);
+        logical = seen_with(logical, sought.logical, p);
+        portions = seen_with(portions, sought.portions, p);
+        barred = counted_with(barred, sought.never, p.code);
+        barred = counted_with(barred, sought.neither, p.code);
+        cur = item.rest;
     }
+    gathered_from(identifier, logical, portions, barred)
 }

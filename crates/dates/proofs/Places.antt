@@ -12,8 +12,9 @@ use Rattle.octets.specs.Walk.{Items, no_items}
 use Rattle.runs.specs.declared.Run.{Run}
 use Rattle.runs.specs.Runs.{items_of, Meeting}
 use Rattle.dates.specs.declared.Found.{Found}
+use Rattle.dates.specs.declared.Found.TheVariants.{Nothing, Sole, Unfit}
 use Rattle.dates.specs.Places.{Place, bounds, no_bounds, zero_at, zeros_at, in_each_at}
-use Rattle.dates.specs.Finding.{path_octet, places_from, counted, found, Tells, no_place, sole, unfit}
+use Rattle.dates.specs.Finding.{path_octet, places_from, counted, found_at, both, Tells, no_place, sole, unfit}
 
 pub counted-append : (xs ys : List Place) → counted (xs ++ ys) ≡ counted xs + counted ys
 unfolding counted
@@ -21,28 +22,25 @@ counted-append [] ys = omega arith
 counted-append (p ∷ ps) ys = omega (arith, counted-append ps ys)
 
 -- what was found in one run and then in another
-abbrev pub both_of : Found → Found → Found
-both_of a b = cond (eqb a.count 0) b (cond (eqb b.count 0) a (found 2 0 0))
-
-pub both-tell : {s : List ℕ} {xs ys : List Place} {a b : Found} → Tells s xs a → Tells s ys b → Tells s (xs ++ ys) (both_of a b)
+pub both-tell : {s : List ℕ} {xs ys : List Place} {a b : Found} → Tells s xs a → Tells s ys b → Tells s (xs ++ ys) (both a b)
 unfolding counted
 both-tell no_place t = t
 both-tell (sole first past l k) no_place = sole first past l k
 both-tell (sole first past l k) (sole from to m n) = unfit (bounds first past ∷ bounds from to ∷ []) (omega arith)
 both-tell (sole first past l k) (unfit ys n) = unfit (bounds first past ∷ ys) (omega arith)
-both-tell {s} (unfit xs n) no_place = subst (λ (zs : List Place). Tells s zs (found 2 0 0)) (sym (append-nil xs)) (unfit xs n)
+both-tell {s} (unfit xs n) no_place = subst (λ (zs : List Place). Tells s zs Unfit) (sym (append-nil xs)) (unfit xs n)
 both-tell (unfit xs n) (sole first past l k) = unfit (xs ++ bounds first past ∷ []) (omega (arith, counted-append xs (bounds first past ∷ [])))
 both-tell (unfit xs n) (unfit ys m) = unfit (xs ++ ys) (omega (arith, counted-append xs ys))
 
 zero-cases : (s : List ℕ) (first past : ℕ) → first ≤ past → past ≤ length s → (a b : Bool)
-    → Tells s (cond a (bounds first past ∷ []) (cond b (no_bounds ∷ []) [])) (cond a (found 1 first past) (cond b (found 2 0 0) (found 0 0 0)))
+    → Tells s (cond a (bounds first past ∷ []) (cond b (no_bounds ∷ []) [])) (cond a (Sole first past) (cond b Unfit Nothing))
 unfolding counted
 zero-cases s first past l k true b = sole first past l k
 zero-cases s first past l k false true = unfit (no_bounds ∷ []) (omega arith)
 zero-cases s first past l k false false = no_place
 
 pub zero-tells : (s : List ℕ) (code first past : ℕ) → first ≤ past → past ≤ length s
-    → Tells s (zero_at code first past) (cond (eqb code 0x80) (found 1 first past) (cond (eqb code 0xA0) (found 2 0 0) (found 0 0 0)))
+    → Tells s (zero_at code first past) (found_at code first past)
 zero-tells s code first past l k = zero-cases s first past l k (eqb code 0x80) (eqb code 0xA0)
 
 -- the run from `from` has been passed up to `to`, and `had` tells what was found
@@ -56,7 +54,7 @@ unfolding places_from zeros_at in_each_at
 places-none zero = refl
 places-none (suc level) = refl
 
-pub at_start : (s : List ℕ) (level : ℕ) (r : Run) → SoFar s level r r (found 0 0 0)
+pub at_start : (s : List ℕ) (level : ℕ) (r : Run) → SoFar s level r r Nothing
 at_start s level r = record { done = []; split = refl; told = no_place }
 
 pub at-end : {s : List ℕ} {level : ℕ} {from to : Run} {had : Found} → SoFar s level from to had → items_of s to ≡ no_items
@@ -67,7 +65,7 @@ at-end {s} {level} {from} {to} {had} f e =
     subst (λ (l : List Place). Tells s l had) (sym all) f.told
 
 pub go_on : {s : List ℕ} {level : ℕ} {from to rest : Run} {had more : Found} → SoFar s level from to had → (own : List Place)
-    → places_from level (items_of s to) ≡ own ++ places_from level (items_of s rest) → Tells s own more → SoFar s level from rest (both_of had more)
+    → places_from level (items_of s to) ≡ own ++ places_from level (items_of s rest) → Tells s own more → SoFar s level from rest (both had more)
 go_on {s} {level} {from} {to} {rest} {had} {more} f own e t =
     record {
       done = f.done ++ own;

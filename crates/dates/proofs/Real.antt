@@ -7,7 +7,6 @@ use mathlib.Core.List.{List, [], ◌∷◌}
 use Prim.Native.Nat.{ℕ, ◌≤◌}
 use native.Mathlib.Omega.{arith}
 use lib.Dec.{eqb}
-use lib.Seq.{slice}
 use borrow.Author.Tests.{eqb-true, eqb-false}
 use Rattle.tree.specs.Tree.{Tree}
 use Rattle.runs.specs.declared.Run.{Run}
@@ -16,16 +15,18 @@ use Rattle.calendar.specs.declared.Day.{Day}
 use Rattle.calendar.specs.Calendar.{names_day}
 use Rattle.calendar.specs.Named.{Names}
 use Rattle.calendar.proofs.Named.{names, named, days-small}
+use Rattle.std.specs.Prelude.{Result}
 use Rattle.dates.specs.declared.DateFound.{DateFound}
 use Rattle.dates.specs.Dates.{Date, DateItem, in_primitive, in_constructed, no_date_by, date_from, the_date, dates_in, date_in}
-use Rattle.dates.specs.Finding.{Answers}
+use Rattle.dates.specs.Finding.{Answers, date_told}
 
 -- the value of a date that is not refused is the sole item's on the path, and names the day
 pub record Given (t : Tree) (a : Date) : Type 0 where
   pub item : dates_in t ≡ in_primitive a.value ∷ []
   pub names_it : Names a.value a.day
 
-dated-by : (value : List ℕ) (b : Bool) → names_day value ≡ b → (date_from value).number ≡ 0 → ((date_from value).value ≡ value) × Names value (date_from value).day
+dated-by : (value : List ℕ) (b : Bool) → names_day value ≡ b → (date_from value).number ≡ 0
+    → ((date_from value).value ≡ value) × Names value (date_from value).day
 unfolding date_from
 dated-by value true e z = rw e (refl, names value e)
 dated-by value false e z = absurd (omega (arith, (rw e at z)))
@@ -88,14 +89,11 @@ small_by t true e =
     record { number = omega arith; year = r.last_year; month = r.last_month; day = omega (arith, r.last_day) }
 small_by t false e = refused-small (date_in t) (else-empty t (eqb-false (date_in t).number 0 e))
 
--- what is answered of a run, as the definition has it
-abbrev pub as_date : List ℕ → DateFound → Date
-as_date s a = record { number = a.number; value = slice a.first a.past s; day = record { year = a.year; month = a.month; day = a.day } }
-
-pub found-small : {s : List ℕ} {r : Run} {a : DateFound} → Answers s r a → Small (as_date s a)
+-- what is answered of a run
+pub found-small : {s : List ℕ} {r : Run} {a : Result DateFound ℕ} → Answers s r a → Small (date_told s a)
 found-small {s} {r} x = subst Small x.date (small_by (tree_in s r) (eqb (date_in (tree_in s r)).number 0) refl)
 
 -- the tree alone decides: of two streams with equal trees the number, the octets and the day are the same
-pub determined : (s other : List ℕ) (r q : Run) (a b : DateFound) → tree_in s r ≡ tree_in other q → Answers s r a → Answers other q b
-    → as_date s a ≡ as_date other b
+pub determined : (s other : List ℕ) (r q : Run) (a b : Result DateFound ℕ) → tree_in s r ≡ tree_in other q → Answers s r a → Answers other q b
+    → date_told s a ≡ date_told other b
 determined s other r q a b e x y = sym x.date ∙ ap date_in e ∙ y.date

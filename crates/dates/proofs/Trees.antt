@@ -13,7 +13,8 @@ use Rattle.octets.specs.Walk.{Items, no_items, item}
 use Rattle.contents.proofs.Firsts.{is_field}
 use Rattle.tree.specs.Tree.{Tree, plain, formed}
 use Rattle.dates.specs.declared.Found.{Found}
-use Rattle.dates.specs.Dates.{DateItem, in_primitive, zeros, in_each, dates_in, no_date_by, date_from, the_date}
+use Rattle.dates.specs.declared.Found.TheVariants.{Nothing, Sole, Unfit}
+use Rattle.dates.specs.Dates.{Date, DateItem, in_primitive, zeros, in_each, dates_in, no_date_by, date_from, the_date}
 use Rattle.dates.specs.Dates as dates
 use Rattle.dates.specs.Places.{Place, bounds, no_bounds, zero_at, zeros_at, in_each_at}
 use Rattle.dates.specs.Finding.{places_from, read_at, counted, Tells, no_place, sole, unfit}
@@ -60,7 +61,8 @@ module _ (s : List ℕ) where
   read-cond false l = refl
 
   each-places : (known : ℕ) → constructed known ≡ true → (list : Tree → List DateItem) (list_at : Items → List Place)
-      → ((i : Items) → map (read_at s) (list_at i) ≡ list (plain s i)) → (i : Items) → map (read_at s) (in_each_at known list_at i) ≡ in_each known list (plain s i)
+      → ((i : Items) → map (read_at s) (list_at i) ≡ list (plain s i))
+      → (i : Items) → map (read_at s) (in_each_at known list_at i) ≡ in_each known list (plain s i)
   unfolding in_each_at in_each
   each-places known k list list_at same no_items = refl
   each-places known k list list_at same (item at code first past inside after) =
@@ -83,24 +85,30 @@ unfit-date s (no_bounds ∷ []) n = refl
 unfit-date s (bounds first past ∷ p ∷ ps) n = refl
 unfit-date s (no_bounds ∷ p ∷ ps) n = refl
 
--- a pass that does not tell of one primitive item
-pub not-one : {s : List ℕ} {places : List Place} {f : Found} → Tells s places f → (f.count ≡ 1 → ⊥) → the_date (map (read_at s) places) ≡ no_date_by 23
+-- the date, by what a pass tells
+abbrev pub date_by : List ℕ → Found → Date
+date_by s Nothing = no_date_by 23
+date_by s (Sole first past) = date_from (slice first past s)
+date_by s Unfit = no_date_by 23
+
+pub date_told_by : {s : List ℕ} {places : List Place} {f : Found} → Tells s places f → the_date (map (read_at s) places) ≡ date_by s f
 unfolding the_date
-not-one no_place n = refl
-not-one (sole first past l k) n = absurd (n refl)
-not-one {s} (unfit places m) n = unfit-date s places m
+date_told_by no_place = refl
+date_told_by (sole first past l k) = refl
+date_told_by {s} (unfit places m) = unfit-date s places m
 
--- a pass that tells of one
-pub record One (s : List ℕ) (places : List Place) (f : Found) : Type 0 where
-  pub place : places ≡ bounds f.first f.past ∷ []
-  pub order : f.first ≤ f.past
-  pub inside : f.past ≤ length s
+-- a pass that tells of one primitive item
+pub record One (s : List ℕ) (places : List Place) (first past : ℕ) : Type 0 where
+  pub place : places ≡ bounds first past ∷ []
+  pub order : first ≤ past
+  pub inside : past ≤ length s
 
-pub is_one : {s : List ℕ} {places : List Place} {f : Found} → Tells s places f → f.count ≡ 1 → One s places f
-is_one no_place e = absurd (omega arith)
-is_one (sole first past l k) e = record { place = refl; order = l; inside = k }
-is_one (unfit places m) e = absurd (omega arith)
+abbrev pub OneBy : List ℕ → List Place → Found → Type 0
+OneBy s places Nothing = Unit {0}
+OneBy s places (Sole first past) = One s places first past
+OneBy s places Unfit = Unit {0}
 
-pub one-date : {s : List ℕ} {places : List Place} {f : Found} → One s places f → the_date (map (read_at s) places) ≡ date_from (slice f.first f.past s)
-unfolding the_date
-one-date {s} o = ap (λ (l : List Place). the_date (map (read_at s) l)) o.place
+pub is_one : {s : List ℕ} {places : List Place} {f : Found} → Tells s places f → OneBy s places f
+is_one no_place = tt
+is_one (sole first past l k) = record { place = refl; order = l; inside = k }
+is_one (unfit places m) = tt

@@ -1,11 +1,12 @@
 // The date of the document: the one item [0] on the path A3, A0 in the profile, and the day that its first ten octets name.
 #![tactic(auto)]
 
-ghost use Rattle.std.specs.Prelude.{◌≡◌, cond, eqb};
+ghost use Rattle.std.specs.Prelude.{◌≡◌};
 ghost use Rattle.runs.specs.Runs.{items_of, Fine};
-ghost use Rattle.dates.specs.Finding.{path_octet, places_from, found, Tells, Answers};
+ghost use Rattle.dates.specs.Finding.{path_octet, found_at, both, places_from, Tells, Answers};
 
-use runs::{Met, Run};
+use calendar::Day;
+use runs::Run;
 
 const MANAGEMENT: usize = 0xA3;
 
@@ -17,23 +18,20 @@ const CONSTRUCTED_DATE: usize = 0xA0;
 
 const PATH_LENGTH: usize = 2;
 
-// What a pass found: 0 for nothing, 1 for one primitive item with its value from `first` to `past`, 2 for more, or a constructed one.
+// What a pass found: nothing; one primitive item, with its value from `first` to `past`; or more, or a constructed one, which do not serve.
 #[derive(Clone, Copy)]
-struct Found {
-    count: usize,
-    first: usize,
-    past: usize,
+enum Found {
+    Nothing,
+    Sole { first: usize, past: usize },
+    Unfit,
 }
 
-// The date: a refusal's number or 0, the bounds of its octets, and the day. With a refusal all else is 0.
+// The date: the bounds of its octets, and the day.
 #[derive(Clone, Copy)]
 pub struct DateFound {
-    pub number: usize,
     pub first: usize,
     pub past: usize,
-    pub year: usize,
-    pub month: usize,
-    pub day: usize,
+    pub day: Day,
 }
 
 // The octet of the path that so many others follow.
@@ -48,44 +46,28 @@ fn path_octet(level: usize) -> usize
 
 // An item, if it is [0].
 fn zero_at(code: usize, first: usize, past: usize) -> Found
-    ensures { result ≡ cond (eqb code 0x80) (found 1 first past) (cond (eqb code 0xA0) (found 2 0 0) (found 0 0 0)) }
+    ensures { result ≡ found_at code first past }
 {
     if code == DATE {
-        return Found {
-            count: 1,
-            first,
-            past,
-        };
+        return Found::Sole { first, past };
     }
     if code == CONSTRUCTED_DATE {
-        return Found {
-            count: 2,
-            first: 0,
-            past: 0,
-        };
+        return Found::Unfit;
     }
-    Found {
-        count: 0,
-        first: 0,
-        past: 0,
-    }
+    Found::Nothing
 }
 
 // What was found in one run and then in another.
 fn both(a: Found, b: Found) -> Found
-    ensures { result ≡ cond (eqb a.count 0) b (cond (eqb b.count 0) a (found 2 0 0)) }
+    ensures { result ≡ both a b }
 {
-    if a.count == 0 {
+    if let Found::Nothing = a {
         return b;
     }
-    if b.count == 0 {
+    if let Found::Nothing = b {
         return a;
     }
-    Found {
-        count: 2,
-        first: 0,
-        past: 0,
-    }
+    Found::Unfit
 }
 
 // The items [0] at the end of the path, from a run that is `level` octets before it. It calls itself for the run inside each item on
@@ -95,66 +77,28 @@ fn found_from(s: &[u8], r: Run, level: usize) -> Found
     ensures { Tells s.now (places_from level (items_of s.now r)) result }
 {
     let mut cur = r;
-    let mut had = Found {
-        count: 0,
-        first: 0,
-        past: 0,
-    };
-    loop {
-        match runs::meet(s, cur) {
-            Met::End => return had,
-            Met::Item {
-                code,
-                first,
-                past,
-                inner,
-                rest,
-            } => {
-                cur = rest;
-                if level == 0 {
-                    had = both(had, zero_at(code, first, past));
-                } else if code == path_octet(level - 1) {
-                    had = both(had, found_from(s, inner, level - 1));
-                }
-            }
+    let mut had = Found::Nothing;
+    while let Some(item) = runs::meet(s, cur) {
+        cur = item.rest;
+        if level == 0 {
+            had = both(had, zero_at(item.code, item.first, item.past));
+        } else if item.code == path_octet(level - 1) {
+            had = both(had, found_from(s, item.inner, level - 1));
         }
     }
+    had
 }
 
-// The date in a profile whose run is known to be whole.
-pub fn date_in(s: &[u8], profile: Run) -> DateFound
+// The date in a profile whose run is known to be whole, or the number of a refusal.
+pub fn date_in(s: &[u8], profile: Run) -> Result<DateFound, usize>
     requires { Fine s.now profile }
     ensures { Answers s.now profile result }
 {
-    let f = found_from(s, profile, PATH_LENGTH);
-    if f.count != 1 {
-        return refused(23);
-    }
-    let first = f.first;
-    let past = f.past;
-    let d = calendar::day_named(&s[first..past]);
-    if d.year == 0 {
-        return refused(24);
-    }
-    DateFound {
-        number: 0,
-        first,
-        past,
-        year: d.year,
-        month: d.month,
-        day: d.day,
-    }
-}
-
-fn refused(number: usize) -> DateFound
-    ensures { result ≡ record { number = number; first = 0; past = 0; year = 0; month = 0; day = 0 } }
-{
-    DateFound {
-        number,
-        first: 0,
-        past: 0,
-        year: 0,
-        month: 0,
-        day: 0,
-    }
+    let Found::Sole { first, past } = found_from(s, profile, PATH_LENGTH) else {
+        return Err(23);
+    };
+    let Some(day) = calendar::day_named(&s[first..past]) else {
+        return Err(24);
+    };
+    Ok(DateFound { first, past, day })
 }

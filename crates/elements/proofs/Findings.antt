@@ -1,11 +1,12 @@
--- What was found of an element, against what it says: rule 12, and the number of the first of rules 12 to 14 that refuses it.
-use mathlib.Core.Path.{◌≡◌, refl, sym, ap, ◌∙◌, subst}
-use mathlib.Core.Bool.{Bool, true, false, ◌&&◌, false≢true, and-false, and_assoc, not-not}
+-- What was found of an element, against what it says: rules 12 and 14.
+use mathlib.Core.Path.{◌≡◌, sym, ap, ◌∙◌, subst}
+use mathlib.Core.Bool.{true, false, ◌&&◌, and-false, and_assoc}
 use mathlib.Core.List.{List}
 use Prim.Native.Nat.{ℕ, zero, suc, ◌+◌}
 use native.Mathlib.Omega.{arith}
 use lib.Dec.{eqb}
 use borrow.Author.Tests.{ne_eqb}
+use Rattle.std.specs.Prelude.{Option, Some, None}
 use Rattle.tree.specs.Tree.{Tree}
 use Rattle.runs.specs.declared.Run.{Run}
 use Rattle.runs.specs.Runs.{tree_in}
@@ -14,30 +15,28 @@ use Rattle.contents.specs.Search.{first_value, first_run}
 use Rattle.contents.specs.Gather.{Gathers}
 use Rattle.pieces.specs.Pieces.{bit_pieces}
 use Rattle.portions.specs.declared.PortionList.{PortionList}
-use Rattle.portions.specs.Lists.{ListsPortions}
+use Rattle.portions.specs.Lists.{ReadsPortions}
 use Rattle.portions.specs.Portions.{values}
 use Rattle.portions.proofs.Judging.{well-spelt}
 use Rattle.elements.specs.declared.Frame.{Frame}
 use Rattle.elements.specs.declared.Slots.{Slots}
-use Rattle.elements.specs.declared.Typed.{Typed}
 use Rattle.elements.specs.Judge.{pieces_alone, Element, names_fit}
-use Rattle.elements.specs.Slots.{slot_content, slot_element, slot_tabled, slot_refusal}
+use Rattle.elements.specs.Slots.{slot_content, slot_element, slot_tabled}
 use Rattle.elements.specs.Says.{Bounds}
-use Rattle.elements.specs.Frames.{Framed, Types}
-use Rattle.elements.specs.Sees.{once, tabled_by, spelt_by, number_of, sought_of}
+use Rattle.elements.specs.Frames.{Framed}
+use Rattle.elements.specs.Sees.{once, tabled_by, spelt_by, sought_of}
 use Rattle.elements.specs.WellMade.{WellMade}
 use Rattle.elements.proofs.Bounding.{counted-bounds}
 
--- what was found: the top of the element, what names it, its portions and its object type
-pub record Findings (s : List ℕ) (shape : Slots) (r : Run) (frame : Frame) (g : Gathered) (listed : PortionList) (numbers : List ℕ)
-    (typed : Typed) : Type 0 where
+-- what was found: the top of the element, what names it, and its portions
+pub record Findings (s : List ℕ) (shape : Slots) (r : Run) (frame : Frame) (g : Gathered) (listed : Option PortionList) (numbers : List ℕ)
+    : Type 0 where
   pub made : WellMade shape
   pub framed : Framed s shape r frame
   pub alone : pieces_alone (slot_content shape (tree_in s r)) ≡ true
   pub seal_alone : bit_pieces (first_run shape.seal (tree_in s r)) ≡ true
   pub gathers : Gathers s frame.body (sought_of shape) g
-  pub lists : ListsPortions s g.list listed numbers
-  pub types : Types shape.types (first_value shape.object (tree_in s r)) typed
+  pub lists : ReadsPortions s g.list listed numbers
 
 -- what the element says
 abbrev pub element_in : Slots → List ℕ → Run → Element
@@ -47,21 +46,17 @@ no-sum : (a b : ℕ) → eqb (a + b) 0 ≡ (eqb a 0 && eqb b 0)
 no-sum zero b = let e : 0 + b ≡ b = omega arith in rw e
 no-sum (suc a) b = rw (ne_eqb (suc a + b) 0 (λ e. omega arith), ne_eqb (suc a) 0 (λ e. omega arith))
 
--- other items than portions are not tabled
-pub no-others : (needed : Bool) (g : Gathered) (others : Bool) → tabled_by needed g others ≡ true → others ≡ false
-unfolding tabled_by
-no-others needed g false t = refl
-no-others needed g true t = absurd (false≢true (simp and-false at t))
+-- 12: other items than portions are not tabled
+pub mixed-untabled : {s : List ℕ} {shape : Slots} {r : Run} {frame : Frame} {g : Gathered} {numbers : List ℕ}
+    → Findings s shape r frame g None numbers → slot_tabled shape (tree_in s r) ≡ false
+unfolding slot_tabled
+mixed-untabled f =
+    rw (← f.framed.tree, ← f.gathers.list_tree f.made.portions, f.lists) (simp and-false)
 
--- 14 counts only where 12 does not refuse
-numbers-agree : (tabled fits a b : Bool) → (tabled ≡ true → a ≡ b) → number_of tabled fits a ≡ number_of tabled fits b
-numbers-agree true fits a b h = rw (h refl)
-numbers-agree false fits a b h = refl
-
-module _ {s : List ℕ} {shape : Slots} {r : Run} {frame : Frame} {g : Gathered} {listed : PortionList} {numbers : List ℕ} {typed : Typed}
-    (f : Findings s shape r frame g listed numbers typed) where
+module _ {s : List ℕ} {shape : Slots} {r : Run} {frame : Frame} {g : Gathered} {listed : PortionList} {numbers : List ℕ}
+    (f : Findings s shape r frame g (Some listed) numbers) where
   -- 12
-  pub tabled-by : tabled_by shape.identifier.needed g listed.others ≡ slot_tabled shape (tree_in s r)
+  pub tabled-by : tabled_by shape.identifier.needed g ≡ slot_tabled shape (tree_in s r)
   unfolding tabled_by slot_tabled once
   tabled-by =
       rw (
@@ -73,9 +68,8 @@ module _ {s : List ℕ} {shape : Slots} {r : Run} {frame : Frame} {g : Gathered}
         f.gathers.logical.amount_is,
         f.gathers.portions.amount_is,
         f.gathers.barred,
-        f.lists.others,
-        f.gathers.list_tree f.made.portions,
-        not-not,
+        ← f.gathers.list_tree f.made.portions,
+        f.lists.only,
         no-sum,
       ) (simp and_assoc)
 
@@ -96,17 +90,6 @@ module _ {s : List ℕ} {shape : Slots} {r : Run} {frame : Frame} {g : Gathered}
   portions-are = ap values (sym (f.gathers.list_tree f.made.portions ∙ ap (first_run shape.portions) f.framed.tree))
 
   -- 14
-  pub names-by : listed.others ≡ false
-      → spelt_by (element_in shape s r).identifier (element_in shape s r).logical listed ≡ names_fit (element_in shape s r)
+  pub names-by : spelt_by (element_in shape s r).identifier (element_in shape s r).logical listed ≡ names_fit (element_in shape s r)
   unfolding names_fit
-  names-by none = rw (portions-are, well-spelt f.lists none)
-
-  -- the first of 12, 13 and 14
-  pub number_by : (tabled spelt : Bool) → tabled ≡ tabled_by shape.identifier.needed g listed.others
-      → (listed.others ≡ false → spelt ≡ names_fit (element_in shape s r))
-      → number_of tabled typed.fits spelt ≡ slot_refusal shape (tree_in s r)
-  unfolding slot_refusal
-  number_by tabled spelt p q =
-      numbers-agree tabled typed.fits spelt (names_fit (element_in shape s r))
-      (λ t. q (no-others shape.identifier.needed g listed.others (sym p ∙ t)))
-      ∙ rw (p, tabled-by, f.types.fits)
+  names-by = rw (portions-are, well-spelt f.lists)

@@ -6,6 +6,7 @@ use mathlib.Core.List.{List}
 use mathlib.Core.Logic.{◌⊎◌, inl, inr}
 use Prim.Native.Nat.{ℕ, ◌≤◌}
 use borrow.Author.Tests.{ne_eqb}
+use Rattle.std.specs.Prelude.{Some}
 use Rattle.headers.specs.Head.{constructed}
 use Rattle.tree.specs.Tree.{plain}
 use Rattle.runs.specs.declared.Run.{Run}
@@ -37,6 +38,11 @@ pub unnamed : (s : List ℕ) (shape : Slots) (r : Run) → shape.looked ≡ fals
 unfolding slot_body slot_items
 unnamed s shape r l = record { fine = empty-fine s 0; items = rw l (empty-items s 0); tree = rw l (ap (plain s) (empty-items s 0)) }
 
+-- or it is named by all of them
+pub named-itself : (s : List ℕ) (shape : Slots) (r : Run) → WellMade shape → shape.free ≡ true → shape.looked ≡ true → Fine s r → NamedIn s shape r r
+unfolding slot_body slot_items
+named-itself s shape r made f l fine = record { fine = fine; items = rw (l, made.itself f); tree = rw (l, made.itself f) }
+
 -- or it is named in one of them
 pub named-within : (s : List ℕ) (shape : Slots) (r : Run) → WellMade shape → shape.free ≡ false → shape.looked ≡ true → {body : Run}
     → Inner s r shape.within body → NamedIn s shape r body
@@ -59,37 +65,15 @@ module _ (s : List ℕ) (shape : Slots) (r : Run) (fine : Fine s r) (made : Well
         lacked-holding made (zero-lacked shape.pieces (made.no_pieces f) fine) (zero-lacked shape.tiles.octet (made.no_tiles f) fine)
         (lacked-bounding (zero-lacked shape.content (made.no_content f) fine))
 
-    pub free-frame : shape.looked ≡ true → Frames s shape r (record { fits = true; body = r; object = no_span; content = no_holder })
-    unfolding slot_body slot_items
-    free-frame l =
+    pub free-frame : {body : Run} → NamedIn s shape r body → Frames s shape r (Some (record { body = body; object = no_span; content = no_holder }))
+    free-frame named =
         record {
-          fits = sym free-ordered;
-          framed =
-              λ _. record {
-                ordered_is = free-ordered;
-                fine = fine;
-                items = rw (l, made.itself f);
-                tree = rw (l, made.itself f);
-                object = no_object;
-                content = no_content;
-              };
-        }
-
-    pub unlooked-frame : shape.looked ≡ false
-        → Frames s shape r (record { fits = true; body = definite_run 0 0 0; object = no_span; content = no_holder })
-    unfolding slot_body slot_items
-    unlooked-frame l =
-        record {
-          fits = sym free-ordered;
-          framed =
-              λ _. record {
-                ordered_is = free-ordered;
-                fine = empty-fine s 0;
-                items = rw l (empty-items s 0);
-                tree = rw l (ap (plain s) (empty-items s 0));
-                object = no_object;
-                content = no_content;
-              };
+          ordered_is = free-ordered;
+          fine = named.fine;
+          items = named.items;
+          tree = named.tree;
+          object = no_object;
+          content = no_content;
         }
 
   module _ (f : shape.free ≡ false) (o : Opening) (opens : Opens s r o) where
@@ -109,24 +93,19 @@ module _ (s : List ℕ) (shape : Slots) (r : Run) (fine : Fine s r) (made : Well
     unfolding slot_ordered
     few-items t = few-by (either (in_order shape.one shape.two (tree_in s r)) or_instead (rw f at t))
 
-    module _ (fits : Bool) (stands : fits ≡ slot_ordered shape (tree_in s r))
+    module _ (stands : slot_ordered shape (tree_in s r) ≡ true)
         (body : Run) (named : o.count ≤ 2 → NamedIn s shape r body)
         (object : Span) (object-is : o.count ≤ 2 → Bounding s r shape.object object)
         (content : Holder) (content_is : o.count ≤ 2 → HoldingSlots s shape r content) where
-      pub ordered-frame : Frames s shape r (record { fits = fits; body = body; object = object; content = content })
+      pub ordered-frame : Frames s shape r (Some (record { body = body; object = object; content = content }))
       ordered-frame =
+          let few = few-items stands in
+          let in_Body = named few in
           record {
-            fits = stands;
-            framed =
-                λ t.
-                let few = few-items (sym stands ∙ t) in
-                let in_Body = named few in
-                record {
-                  ordered_is = sym stands ∙ t;
-                  fine = in_Body.fine;
-                  items = in_Body.items;
-                  tree = in_Body.tree;
-                  object = object-is few;
-                  content = content_is few;
-                };
+            ordered_is = stands;
+            fine = in_Body.fine;
+            items = in_Body.items;
+            tree = in_Body.tree;
+            object = object-is few;
+            content = content_is few;
           }

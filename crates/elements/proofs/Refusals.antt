@@ -12,11 +12,10 @@ use Rattle.elements.specs.Shape.{shape_of}
 use Rattle.elements.specs.Judge.{value_at, type_octet, types_of, Element, element_of, as_tabled, type_fits, names_fit, most_elements, profile_octet, twice}
 use Rattle.elements.specs.Judge.{first_of, ◌when◌, contents_rules, refusal_of}
 use Rattle.elements.specs.ShapeRefusal.{shape_refusal}
-use Rattle.elements.specs.Sees.{number_of}
 
 -- the last test counts where none before it refuses
 then-last : (a b c d : Bool) → first_of (contents_rules a b c ++ (15 when d) ∷ [])
-    ≡ cond (eqb (number_of a b c) 0) (cond d 15 0) (number_of a b c)
+    ≡ cond (eqb (first_of (contents_rules a b c)) 0) (cond d 15 0) (first_of (contents_rules a b c))
 then-last true true true d = refl
 then-last true true false d = refl
 then-last true false c d = refl

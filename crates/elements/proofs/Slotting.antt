@@ -18,6 +18,7 @@ use Rattle.pieces.specs.Pieces.{only_pieces}
 use Rattle.portions.specs.Portions.{all_portions, values}
 use Rattle.elements.specs.declared.Holder.{Holder}
 use Rattle.elements.specs.declared.Row.{Row}
+use Rattle.std.specs.Prelude.{Result}
 use Rattle.elements.specs.declared.Seen.{Seen}
 use Rattle.contents.specs.declared.Slot.{Slot}
 use Rattle.elements.specs.Shape.{Contents, profile, described, unit, style, protected, Shape}
@@ -307,9 +308,9 @@ module _ {s : List ℕ} {r : Run} (fine : Fine s r) where
         )
 
     -- what is seen of an element by its slots is what it is by its shape
-    pub sees-shape : (first past : ℕ) {bounds : List ℕ} {seen : Seen} → SeesSlots s (slots_of shape) r first past bounds seen
+    pub sees-shape : (first past : ℕ) (bounds : List ℕ) (seen : Result Seen ℕ) → SeesSlots s (slots_of shape) r first past bounds seen
         → SeesShape s shape r first past bounds seen
-    sees-shape first past {bounds} {seen} h =
+    sees-shape first past bounds seen h =
         let same_row = row_same its_octet its_contents s first past (items_of s r) (no_zero fine) (body-zero its_contents) (items-zero its_contents) in
         subst (λ (n : ℕ). Sees s n (row_of shape s first past (items_of s r)) (element_of shape (tree_in s r)) bounds seen) refusal-same
         (subst (λ (row : Row). Sees s (slot_refusal (slots_of shape) (tree_in s r)) row (element_of shape (tree_in s r)) bounds seen) same_row

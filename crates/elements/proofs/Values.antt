@@ -4,9 +4,10 @@ use mathlib.Core.Bool.{Bool, true, false, false≢true}
 use mathlib.Core.List.{List, [], ◌∷◌}
 use Prim.Native.Nat.{ℕ, suc, ◌-◌, ◌<◌, ◌≤◌}
 use native.Mathlib.Omega.{arith}
-use lib.Dec.{ltb}
+use borrow.Author.Tests.{lt-ltb, le-ltb}
 use lib.ListN.{length, get_or}
 use lib.Seq.{slice, slice-cons, slice_empty, length-slice}
+use Rattle.std.specs.Prelude.{Some, None}
 use Rattle.contents.specs.declared.Span.{Span}
 use Rattle.contents.specs.Search.{Value, absent, octets}
 use Rattle.names.specs.Names.{is_identifier, grouped}
@@ -15,7 +16,7 @@ use Rattle.elements.specs.Says.{Covers, Bounds, Names}
 use Rattle.elements.specs.Frames.{Types}
 
 -- a value of another length than one octet is no object type
-not-one : (types : ℕ) (bytes : List ℕ) → (length bytes ≡ 1 → ⊥) → false ≡ type_fits types (octets bytes)
+not-one : (types : ℕ) (bytes : List ℕ) → (length bytes ≡ 1 → ⊥) → type_fits types (octets bytes) ≡ false
 not-one types [] n = refl
 not-one types (x ∷ []) n = absurd (n refl)
 not-one types (x ∷ y ∷ ys) n = refl
@@ -37,22 +38,26 @@ module _ (s : List ℕ) (v : Span) where
   covers-length bytes b = ap length (sym b.value) ∙ length-slice v.first v.past s b.placed.inside
 
   module _ (types : ℕ) where
-    pub type-absent : v.past ≡ 0 → (value : Value) → Bounds s v value → Types types value (record { fits = true; value = no_type })
-    type-absent z absent b = record { fits = refl; object = λ _. refl }
+    pub type-absent : v.past ≡ 0 → (value : Value) → Bounds s v value → Types types value (Some no_type)
+    type-absent z absent b = (refl, refl)
     type-absent z (octets bytes) b = absurd (omega (arith, b.there))
 
     pub type-long : (v.past ≡ 0 → ⊥) → (v.past - v.first ≡ 1 → ⊥)
-        → (value : Value) → Bounds s v value → Types types value (record { fits = false; value = no_type })
+        → (value : Value) → Bounds s v value → Types types value None
     type-long some n absent b = absurd (some (ap (λ (x : Span). x.past) b))
-    type-long some n (octets bytes) b =
-        record { fits = not-one types bytes (λ e. n (sym (covers-length bytes b) ∙ e)); object = λ t. absurd (false≢true t) }
+    type-long some n (octets bytes) b = not-one types bytes (λ e. n (sym (covers-length bytes b) ∙ e))
 
-    pub type-one : (v.past ≡ 0 → ⊥) → v.past - v.first ≡ 1 → (x : ℕ) → x ≡ get_or s v.first 0
-        → (value : Value) → Bounds s v value → Types types value (record { fits = ltb x types; value = x })
-    type-one some e x p absent b = absurd (some (ap (λ (x : Span). x.past) b))
-    type-one some e x p (octets bytes) b =
-        let bytes-are : bytes ≡ x ∷ [] = sym b.value ∙ one_byte s v.first v.past e b.placed.inside ∙ rw p in
-        record { fits = rw bytes-are; object = λ _. rw bytes-are }
+    module _ (some : v.past ≡ 0 → ⊥) (one : v.past - v.first ≡ 1) where
+      bytes-are : (bytes : List ℕ) → Covers s v bytes → bytes ≡ get_or s v.first 0 ∷ []
+      bytes-are bytes b = sym b.value ∙ one_byte s v.first v.past one b.placed.inside
+
+      pub type-one : get_or s v.first 0 < types → (value : Value) → Bounds s v value → Types types value (Some (get_or s v.first 0))
+      type-one l absent b = absurd (some (ap (λ (x : Span). x.past) b))
+      type-one l (octets bytes) b = (rw (bytes-are bytes b, lt-ltb _ _ l), rw (bytes-are bytes b))
+
+      pub type-beyond : types ≤ get_or s v.first 0 → (value : Value) → Bounds s v value → Types types value None
+      type-beyond l absent b = absurd (some (ap (λ (x : Span). x.past) b))
+      type-beyond l (octets bytes) b = rw (bytes-are bytes b, le-ltb _ _ l)
 
   pub spelt-absent : v.past ≡ 0 → (value : Value) → Bounds s v value → true ≡ spelt value
   spelt-absent z absent b = refl

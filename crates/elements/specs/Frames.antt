@@ -1,5 +1,5 @@
 -- What the code learns of the top of an element: whether its items stand as tabled, and where to look further.
-use Rattle.std.specs.Prelude.{◌≡◌, true, false, List, ℕ, ◌<◌}
+use Rattle.std.specs.Prelude.{◌≡◌, true, false, List, ℕ, ◌<◌, Option, Some, None}
 use Rattle.headers.specs.Head.{constructed}
 use Rattle.octets.specs.Walk.{Items}
 use Rattle.runs.specs.declared.Run.{Run}
@@ -12,7 +12,6 @@ use Rattle.contents.specs.Search.{Value, first_value, first_run, bounds_of, item
 use Rattle.elements.specs.declared.Frame.{Frame}
 use Rattle.elements.specs.declared.Holder.{Holder}
 use Rattle.elements.specs.declared.Slots.{Slots}
-use Rattle.elements.specs.declared.Typed.{Typed}
 use Rattle.elements.specs.Judge.{Content, single, in_pieces, content_of, type_of, type_fits}
 use Rattle.elements.specs.Slots.{slot_body, slot_content, slot_ordered, slot_items, slot_octet}
 use Rattle.elements.specs.ElementRows.{content_octet, bounds_at, items_at}
@@ -90,12 +89,17 @@ pub record Framed (s : List ℕ) (shape : Slots) (r : Run) (frame : Frame) : Typ
   pub object : Bounding s r shape.object frame.object
   pub content : HoldingSlots s shape r frame.content
 
--- the top of an element
-pub record Frames (s : List ℕ) (shape : Slots) (r : Run) (frame : Frame) : Type 0 where
-  pub fits : frame.fits ≡ slot_ordered shape (tree_in s r)
-  pub framed : frame.fits ≡ true → Framed s shape r frame
+-- the top of an element: there is none, if its items do not stand as tabled
+abbrev pub Frames : (s : List ℕ) → Slots → Run → Option Frame → Type 0
+Frames s shape r (Some frame) = Framed s shape r frame
+Frames s shape r None = slot_ordered shape (tree_in s r) ≡ false
 
 -- 13, and "object type (255 if none)"
-pub record Types (types : ℕ) (value : Value) (typed : Typed) : Type 0 where
-  pub fits : typed.fits ≡ type_fits types value
-  pub object : typed.fits ≡ true → typed.value ≡ type_of value
+abbrev pub Types : (types : ℕ) → Value → Option ℕ → Type 0
+Types types value (Some object) = (type_fits types value ≡ true) × (object ≡ type_of value)
+Types types value None = type_fits types value ≡ false
+
+-- an object type, if there is one, is one octet
+abbrev pub OneOctet : Option ℕ → Type 0
+OneOctet (Some object) = object < 256
+OneOctet None = Unit {0}

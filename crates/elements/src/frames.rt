@@ -12,7 +12,7 @@ ghost use Rattle.elements.specs.WellMade.{WellMade};
 ghost use Rattle.elements.specs.Frames.{Bounding, Inner, NamedIn, HoldsContent, HoldingSlots, PiecesFirst, no_holder, Frames};
 
 use super::{Frame, Holder, Slots};
-use contents::{Opening, Part, PartFound, Span};
+use contents::{Opening, Part, Span};
 use runs::Run;
 
 fn no_run() -> Run
@@ -27,12 +27,12 @@ fn no_run() -> Run
 }
 
 // The bounds of the value of an item that was looked for.
-fn bounds_of(found: PartFound) -> Span
+fn bounds_of(found: Option<Part>) -> Span
     ensures { (s : List ℕ) (r : Run) (octet : ℕ) → FoundIn s r octet found → Bounding s r octet result }
 {
     match found {
-        PartFound::At(p) => contents::span_of(p),
-        PartFound::Missing => Span { first: 0, past: 0 },
+        Some(p) => contents::span_of(p),
+        None => Span { first: 0, past: 0 },
     }
 }
 
@@ -41,8 +41,8 @@ fn run_with(o: Opening, octet: usize) -> Run
     ensures { (s : List ℕ) (r : Run) → Opens s r o → o.count ≤ 2 → constructed octet ≡ true → Inner s r octet result }
 {
     match contents::part_with(o, octet) {
-        PartFound::At(p) => p.inner,
-        PartFound::Missing => no_run(),
+        Some(p) => p.inner,
+        None => no_run(),
     }
 }
 
@@ -71,7 +71,7 @@ fn held_in_pieces(p: Part) -> Holder
 }
 
 // Where there are neither pieces nor tiles, it is held by the item with the content, if that is there.
-fn held_whole(found: PartFound) -> Holder
+fn held_whole(found: Option<Part>) -> Holder
     ensures { (s : List ℕ) (shape : Slots) (r : Run) → WellMade shape → Lacks s r shape.pieces → Lacks s r shape.tiles.octet
         → FoundIn s r shape.content found → HoldingSlots s shape r result }
 {
@@ -89,8 +89,8 @@ fn unpieced_with(o: Opening, shape: Slots) -> Holder
 {
     let tiles = shape.tiles;
     match contents::part_with(o, tiles.octet) {
-        PartFound::At(p) => held_in_pieces(p),
-        PartFound::Missing => held_whole(contents::part_with(o, shape.content)),
+        Some(p) => held_in_pieces(p),
+        None => held_whole(contents::part_with(o, shape.content)),
     }
 }
 
@@ -100,8 +100,8 @@ fn holder_with(o: Opening, shape: Slots) -> Holder
     ensures { (s : List ℕ) (r : Run) → Opens s r o → o.count ≤ 2 → HoldingSlots s shape r result }
 {
     match contents::part_with(o, shape.pieces) {
-        PartFound::At(p) => held_in_pieces(p),
-        PartFound::Missing => unpieced_with(o, shape),
+        Some(p) => held_in_pieces(p),
+        None => unpieced_with(o, shape),
     }
 }
 
@@ -134,57 +134,58 @@ fn body_with(o: Opening, shape: Slots) -> Run
     run_with(o, shape.within)
 }
 
-// The top of an element whose items stand in order.
-fn frame_in_order(s: &[u8], shape: Slots, r: Run) -> Frame
+// The top of an element whose items have to stand in order, if they do.
+fn frame_in_order(s: &[u8], shape: Slots, r: Run) -> Option<Frame>
     requires { Fine s.now r × WellMade shape × (shape.free ≡ false) }
     ensures { Frames s.now shape r result }
 {
     let o = contents::opening_of(s, r);
-    let fits = stands(o, shape);
-    let body = body_with(o, shape);
-    let object = bounds_of(contents::part_with(o, shape.object));
-    let content = holder_with(o, shape);
-    Frame {
-        fits,
-        body,
-        object,
-        content,
+    if !stands(o, shape) {
+        return None;
     }
+    Some(Frame {
+        body: body_with(o, shape),
+        object: bounds_of(contents::part_with(o, shape.object)),
+        content: holder_with(o, shape),
+    })
 }
 
-// The top of an element: at most three items of it are met.
-pub fn frame_of(s: &[u8], shape: Slots, r: Run) -> Frame
+// The run that names an element whose items are free: its own, or none, if nothing names it.
+fn free_body(shape: Slots, r: Run) -> Run
+    requires { WellMade shape × (shape.free ≡ true) }
+    ensures { (s : List ℕ) → Fine s r → NamedIn s shape r result }
+{
+    if !shape.looked {
+        return no_run();
+    }
+    r
+}
+
+// The top of an element, if its items stand as they have to: at most three items of it are met.
+pub fn frame_of(s: &[u8], shape: Slots, r: Run) -> Option<Frame>
     requires { Fine s.now r × WellMade shape }
     ensures { Frames s.now shape r result }
 {
     if !shape.free {
         return frame_in_order(s, shape, r);
     }
-    if shape.looked {
-        return Frame {
-            fits: true,
-            body: r,
-            object: Span { first: 0, past: 0 },
-            content: no_holder(),
-        };
-    }
-    Frame {
-        fits: true,
-        body: no_run(),
+    Some(Frame {
+        body: free_body(shape, r),
         object: Span { first: 0, past: 0 },
         content: no_holder(),
-    }
+    })
 }
 
-// What holds the content of an element of a stream that was judged, if no item of it has pieces.
+// What holds the content of an element of a stream that was judged, if no item of it has pieces. It is `unpieced_with` with another
+// look-up: one function of both would take the look-up as a closure, whose contract is no plainer than two short functions.
 fn unpieced_in(s: &[u8], shape: Slots, r: Run) -> Holder
     requires { Fine s.now r × WellMade shape × Lacks s.now r shape.pieces }
     ensures { HoldingSlots s.now shape r result }
 {
     let tiles = shape.tiles;
     match contents::first_with(s, r, tiles.octet) {
-        PartFound::At(p) => held_in_pieces(p),
-        PartFound::Missing => held_whole(contents::first_with(s, r, shape.content)),
+        Some(p) => held_in_pieces(p),
+        None => held_whole(contents::first_with(s, r, shape.content)),
     }
 }
 
@@ -194,8 +195,8 @@ pub fn holder_in(s: &[u8], shape: Slots, r: Run) -> Holder
     ensures { HoldingSlots s.now shape r result }
 {
     match contents::first_with(s, r, shape.pieces) {
-        PartFound::At(p) => held_in_pieces(p),
-        PartFound::Missing => unpieced_in(s, shape, r),
+        Some(p) => held_in_pieces(p),
+        None => unpieced_in(s, shape, r),
     }
 }
 
@@ -220,7 +221,7 @@ pub fn seal_alone(s: &[u8], shape: Slots, r: Run) -> bool
         return true;
     }
     match contents::first_with(s, r, shape.seal) {
-        PartFound::At(p) => pieces::are_pieces(s, p.inner, 0x03, 0x23),
-        PartFound::Missing => true,
+        Some(p) => pieces::are_pieces(s, p.inner, 0x03, 0x23),
+        None => true,
     }
 }

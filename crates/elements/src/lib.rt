@@ -6,12 +6,12 @@ ghost use Rattle.octets.specs.Walk.{no_items, stream_limit};
 ghost use Rattle.runs.specs.Runs.{items_of, tree_in, Fine};
 ghost use Rattle.contents.specs.Search.{first_run};
 ghost use Rattle.pieces.specs.Pieces.{bit_pieces};
-ghost use Rattle.portions.specs.Lists.{ListsPortions};
+ghost use Rattle.portions.specs.Lists.{ReadsPortions};
 ghost use Rattle.elements.specs.Judge.{pieces_alone};
 ghost use Rattle.elements.specs.Slots.{slot_content};
 ghost use Rattle.elements.specs.WellMade.{WellMade};
 ghost use Rattle.elements.specs.Frames.{Framed};
-ghost use Rattle.elements.specs.Sees.{sought_of, row_by, refused_by, seen_by, Lookable, SeesSlots};
+ghost use Rattle.elements.specs.Sees.{sought_of, row_by, Lookable, SeesSlots};
 
 use contents::{Gathered, Slot, Sought, Span};
 use portions::PortionList;
@@ -32,11 +32,12 @@ pub enum Edition {
     Of1993,
 }
 
-// The object type of an element that has none.
+// The object type of an element that has none: the number that the lent table has for it.
 pub const NO_TYPE: usize = 255;
 
 // A shape as the code looks for it: the definitions have a case for each kind of element, and here one record has the slots of them all, so
-// that one function serves every element. Most slots are empty: an octet 0 stands for none.
+// that one function serves every element. Most slots are empty: an octet 0 stands for none, since no item has it (crate elements'
+// proofs/Zero), so what is looked for is found by its octet alone, without asking first whether there is one.
 #[derive(Clone, Copy)]
 pub struct Slots {
     pub octet: usize,
@@ -66,7 +67,8 @@ pub struct Slots {
 }
 
 // A row of the scratch: the element's kind and object type, and the bounds of the element, of its identifier (a unit's layout one), of a unit's
-// logical identifier, of the portions' value and of the content. The lent table's row has the parent's row besides (`answers::table`).
+// logical identifier, of the portions' value and of the content. What is absent is bounded by 0 and 0, as in the lent table, whose row has
+// the parent's row besides (`answers::table`).
 #[derive(Clone, Copy)]
 pub struct Row {
     pub kind: usize,
@@ -78,7 +80,8 @@ pub struct Row {
     pub content: Span,
 }
 
-// What holds the content of an element: the bounds of its value, and whether that is a run of pieces.
+// What holds the content of an element: the bounds of its value, and whether that is a run of pieces. The flag stays beside the run: the
+// run is fine either way (`Holding`), so a reader of pieces need not ask, and an Option would be asked at each use.
 #[derive(Clone, Copy)]
 pub struct Holder {
     pub value: Span,
@@ -86,60 +89,19 @@ pub struct Holder {
     pub pieces: Run,
 }
 
-// The top of an element: whether its items stand in order, and if so the run that names it, its object type and its content.
+// The top of an element whose items stand as they have to: the run that names it, its object type and its content.
 #[derive(Clone, Copy)]
 pub struct Frame {
-    pub fits: bool,
     pub body: Run,
     pub object: Span,
     pub content: Holder,
 }
 
-// Whether an object type is in its range, and which it is.
-#[derive(Clone, Copy)]
-pub struct Typed {
-    pub fits: bool,
-    pub value: usize,
-}
-
-// What is seen of an element: a refusal, 12 to 14, or 0 with its row and how many portions it has.
+// What is seen of an element that rules 12 to 14 do not refuse: its row, and how many portions it has.
 #[derive(Clone, Copy)]
 pub struct Seen {
-    pub refusal: usize,
     pub row: Row,
     pub count: usize,
-}
-
-fn refused(number: usize) -> Seen
-    ensures { result ≡ refused_by number }
-{
-    Seen {
-        refusal: number,
-        row: Row {
-            kind: 0,
-            object: 0,
-            whole: Span { first: 0, past: 0 },
-            identifier: Span { first: 0, past: 0 },
-            logical: Span { first: 0, past: 0 },
-            portions: Span { first: 0, past: 0 },
-            content: Span { first: 0, past: 0 },
-        },
-        count: 0,
-    }
-}
-
-// An element that is refused by a number, or that has the row.
-fn seen_by(number: usize, row: Row, count: usize) -> Seen
-    ensures { result ≡ seen_by number row count }
-{
-    if number != 0 {
-        return refused(number);
-    }
-    Seen {
-        refusal: 0,
-        row,
-        count,
-    }
 }
 
 fn sought_of(shape: Slots) -> Sought
@@ -156,20 +118,18 @@ fn sought_of(shape: Slots) -> Sought
 }
 
 // The portions of an element, read if there are any.
-fn listed_of(s: &[u8], g: Gathered, bounds: &mut [u32]) -> PortionList
+fn listed_of(s: &[u8], g: Gathered, bounds: &mut [u32]) -> Option<PortionList>
     requires { Fine s.now g.list × (length s.now ≤ stream_limit) × (128 ≤ length bounds.old) }
     ensures { (g.lists ≡ 0 → items_of s.now g.list ≡ no_items)
-        → ListsPortions s.now g.list result bounds.new }
+        → ReadsPortions s.now g.list result bounds.new }
 {
     if g.lists == 0 {
-        return PortionList {
+        return Some(PortionList {
             count: 0,
-            others: false,
             misspelt: false,
-        };
+        });
     }
-    let list = g.list;
-    portions::read_portions(s, list, bounds)
+    portions::read_portions(s, g.list, bounds)
 }
 
 // The row of an element.
@@ -193,40 +153,58 @@ fn row_of(shape: Slots, frame: Frame, object: usize, g: Gathered, whole: Span) -
 }
 
 // What is seen of an element whose items stand as tabled. What names it is gathered once, and its portions are read once.
-fn see_body(s: &[u8], shape: Slots, frame: Frame, whole: Span, bounds: &mut [u32]) -> Seen
+fn see_body(
+    s: &[u8],
+    shape: Slots,
+    frame: Frame,
+    whole: Span,
+    bounds: &mut [u32],
+) -> Result<Seen, usize>
     requires { Lookable s.now shape frame whole × (128 ≤ length bounds.old) }
     ensures { (r : Run) → Framed s.now shape r frame → pieces_alone (slot_content shape (tree_in s.now r)) ≡ true
         → bit_pieces (first_run shape.seal (tree_in s.now r)) ≡ true
         → SeesSlots s.now shape r whole.first whole.past bounds.new result }
 {
-    let body = frame.body;
-    let g = contents::gather(s, body, sought_of(shape));
-    let listed = listed_of(s, g, bounds);
-    let object = frame.object;
-    let typed = rules::object_type(s, object, shape.types);
-    let identifier = shape.identifier;
-    let tabled = rules::is_tabled(identifier.needed, g, listed.others);
-    let spelt = rules::are_spelt(s, g.identifier, g.logical, listed);
-    let number = rules::refusal_of(tabled, typed.fits, spelt);
-    let row = row_of(shape, frame, typed.value, g, whole);
-    seen_by(number, row, listed.count)
+    let g = contents::gather(s, frame.body, sought_of(shape));
+    let Some(listed) = listed_of(s, g, bounds) else {
+        return Err(12);
+    };
+    if !rules::is_tabled(shape.identifier.needed, g) {
+        return Err(12);
+    }
+    let Some(object) = rules::object_type(s, frame.object, shape.types) else {
+        return Err(13);
+    };
+    if !rules::are_spelt(s, g.identifier, g.logical, listed) {
+        return Err(14);
+    }
+    Ok(Seen {
+        row: row_of(shape, frame, object, g, whole),
+        count: listed.count,
+    })
 }
 
-// What rules 12 to 14 say of an element that stands from `first` to `past` and has the run r; and its row, if they refuse nothing. The
-// judge of a letter calls it once for each element, and lends the numbers that its portions are then compared by.
-pub fn see(s: &[u8], shape: Slots, r: Run, first: usize, past: usize, bounds: &mut [u32]) -> Seen
+// What rules 12 to 14 say of an element that stands from `first` to `past` and has the run r: its row, or the number of the first that
+// refuses. The judge of a letter calls it once for each element, and lends the numbers that its portions are then compared by.
+pub fn see(
+    s: &[u8],
+    shape: Slots,
+    r: Run,
+    first: usize,
+    past: usize,
+    bounds: &mut [u32],
+) -> Result<Seen, usize>
     requires { Fine s.now r × WellMade shape × (length s.now ≤ stream_limit) × (first ≤ past) × (past ≤ length s.now) × (128 ≤ length bounds.old) }
     ensures { SeesSlots s.now shape r first past bounds.new result }
 {
-    let frame = frames::frame_of(s, shape, r);
-    if !frame.fits {
-        return refused(12);
-    }
+    let Some(frame) = frames::frame_of(s, shape, r) else {
+        return Err(12);
+    };
     if !frames::pieces_alone(s, frame.content) {
-        return refused(12);
+        return Err(12);
     }
     if !frames::seal_alone(s, shape, r) {
-        return refused(12);
+        return Err(12);
     }
     see_body(s, shape, frame, Span { first, past }, bounds)
 }

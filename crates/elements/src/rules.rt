@@ -1,48 +1,37 @@
 // Rules 12 to 14 of an element whose items stand in order, by what was found in it.
-ghost use Rattle.std.specs.Prelude.{◌≡◌, ◌<◌};
+ghost use Rattle.std.specs.Prelude.{◌≡◌};
 ghost use Rattle.contents.specs.Search.{Value};
 ghost use Rattle.elements.specs.Judge.{spelt};
 ghost use Rattle.elements.specs.Says.{Placed, Bounds};
-ghost use Rattle.elements.specs.Frames.{Types};
-ghost use Rattle.elements.specs.Sees.{once, tabled_by, spelt_by, number_of};
+ghost use Rattle.elements.specs.Frames.{OneOctet, Types};
+ghost use Rattle.elements.specs.Sees.{once, tabled_by, spelt_by};
 
-use super::{NO_TYPE, Typed};
+use super::NO_TYPE;
 use contents::{Gathered, Span};
 use portions::{MOST_PORTIONS, PortionList};
 
-fn wide(x: u8) -> usize
-    ensures { (result ≡ x) × (result < 256) }
-{
-    x as usize
-}
-
-// Rule 13, and the object type.
-pub fn object_type(s: &[u8], v: Span, types: usize) -> Typed
+// Rule 13: the object type, if it is in its range.
+pub fn object_type(s: &[u8], v: Span, types: usize) -> Option<usize>
     requires { Placed s.now v }
-    ensures { (result.value < 256) × ((value : Value) → Bounds s.now v value → Types types value result) }
+    ensures { OneOctet result × ((value : Value) → Bounds s.now v value → Types types value result) }
 {
     let first = v.first;
     let past = v.past;
     if past == 0 {
-        return Typed {
-            fits: true,
-            value: NO_TYPE,
-        };
+        return Some(NO_TYPE);
     }
     if past - first != 1 {
-        return Typed {
-            fits: false,
-            value: NO_TYPE,
-        };
+        return None;
     }
-    let value = wide(s[first]);
-    Typed {
-        fits: value < types,
-        value,
+    let value = s[first] as usize;
+    if value < types {
+        return Some(value);
     }
+    None
 }
 
 // Whether an item may stand there so often: at most once, and once if it is needed.
+#[tactic(auto, unfolding(crate::specs::Sees::once))]
 fn is_once(needed: bool, amount: usize) -> bool
     ensures { result ≡ once needed amount }
 {
@@ -53,8 +42,9 @@ fn is_once(needed: bool, amount: usize) -> bool
 }
 
 // Rule 12, in an element whose items stand in order, by what was gathered.
-pub fn is_tabled(needed: bool, g: Gathered, others: bool) -> bool
-    ensures { result ≡ tabled_by needed g others }
+#[tactic(auto, unfolding(crate::specs::Sees::tabled_by))]
+pub fn is_tabled(needed: bool, g: Gathered) -> bool
+    ensures { result ≡ tabled_by needed g }
 {
     if !is_once(needed, g.identifiers) {
         return false;
@@ -65,10 +55,7 @@ pub fn is_tabled(needed: bool, g: Gathered, others: bool) -> bool
     if 1 < g.lists {
         return false;
     }
-    if g.barred != 0 {
-        return false;
-    }
-    !others
+    g.barred == 0
 }
 
 // Whether an identifier is well spelt, or absent.
@@ -81,7 +68,7 @@ fn is_spelt(s: &[u8], v: Span) -> bool
     if past == 0 {
         return true;
     }
-    names::is_identifier(s, first, past)
+    names::is_identifier(&s[first..past])
 }
 
 // Rule 14, by what was gathered and read.
@@ -99,20 +86,4 @@ pub fn are_spelt(s: &[u8], identifier: Span, logical: Span, listed: PortionList)
         return false;
     }
     !listed.misspelt
-}
-
-// The first of rules 12 to 14 that refuses.
-pub fn refusal_of(tabled: bool, fits: bool, spelt: bool) -> usize
-    ensures { result ≡ number_of tabled fits spelt }
-{
-    if !tabled {
-        return 12;
-    }
-    if !fits {
-        return 13;
-    }
-    if !spelt {
-        return 14;
-    }
-    0
 }

@@ -2,7 +2,7 @@
 ghost use Rattle.std.specs.Prelude.{◌≡◌};
 ghost use Rattle.headers.specs.Head.{type_field};
 ghost use Rattle.elements.specs.Shape.{shapes1988, shapes1993, shape_in, shape_of};
-ghost use Rattle.elements.specs.Slots.{profile_slots, described_slots, unit_slots, style_slots, enciphered_slots, sealed_slots, slots_of};
+ghost use Rattle.elements.specs.Slots.{profile_slots, described_slots, unit_slots, style_slots, protected_slots, enciphered_slots, sealed_slots, slots_of};
 
 use super::{Edition, Slots};
 use contents::Slot;
@@ -28,29 +28,32 @@ const LAYOUT_TYPES: usize = 5;
 
 const LOGICAL_TYPES: usize = 3;
 
+// A shape of which nothing is looked for: its items are free.
+const NO_SLOTS: Slots = Slots {
+    octet: 0,
+    looked: false,
+    free: true,
+    one: NO_ITEM,
+    two: NO_ITEM,
+    instead: NO_ITEM,
+    tiles: NO_ITEM,
+    within: 0,
+    identifier: NO_ITEM,
+    logical: 0,
+    portions: 0,
+    never: 0,
+    neither: 0,
+    object: 0,
+    types: 0,
+    content: 0,
+    pieces: 0,
+    seal: 0,
+};
+
 fn profile_slots(octet: usize) -> Slots
     ensures { result ≡ profile_slots octet }
 {
-    Slots {
-        octet,
-        looked: false,
-        free: true,
-        one: NO_ITEM,
-        two: NO_ITEM,
-        instead: NO_ITEM,
-        tiles: NO_ITEM,
-        within: 0,
-        identifier: NO_ITEM,
-        logical: 0,
-        portions: 0,
-        never: 0,
-        neither: 0,
-        object: 0,
-        types: 0,
-        content: 0,
-        pieces: 0,
-        seal: 0,
-    }
+    Slots { octet, ..NO_SLOTS }
 }
 
 // A class, of which the items are needed, or an object.
@@ -79,15 +82,12 @@ fn described_slots(octet: usize, needed: bool, types: usize) -> Slots
             octet: 0x41,
             needed,
         },
-        logical: 0,
         portions: 0xA1,
         never: 0x61,
         neither: 0x81,
         object: 0x02,
         types,
-        content: 0,
-        pieces: 0,
-        seal: 0,
+        ..NO_SLOTS
     }
 }
 
@@ -118,14 +118,11 @@ fn unit_slots(octet: usize, needed: bool, tiles: Slot) -> Slots
             needed: false,
         },
         logical: 0x84,
-        portions: 0,
         never: 0x60,
         neither: 0xA4,
-        object: 0,
-        types: 0,
         content: 0x04,
         pieces: 0x24,
-        seal: 0,
+        ..NO_SLOTS
     }
 }
 
@@ -135,95 +132,57 @@ fn style_slots(octet: usize) -> Slots
     Slots {
         octet,
         looked: true,
-        free: true,
-        one: NO_ITEM,
-        two: NO_ITEM,
-        instead: NO_ITEM,
-        tiles: NO_ITEM,
-        within: 0,
         identifier: Slot {
             octet: 0x45,
             needed: true,
         },
-        logical: 0,
-        portions: 0,
         never: 0x65,
-        neither: 0,
-        object: 0,
-        types: 0,
-        content: 0,
-        pieces: 0,
-        seal: 0,
+        ..NO_SLOTS
     }
 }
 
-// A part that is enciphered: 47, then an octet string, which is its content. Nothing names it.
+// A protected part: 47, then what is sealed or enciphered, whole or in pieces. Nothing names it.
+fn protected_slots(octet: usize, whole: usize, pieces: usize) -> Slots
+    ensures { result ≡ protected_slots octet whole pieces 0 0 0 }
+{
+    Slots {
+        octet,
+        free: false,
+        one: Slot {
+            octet: 0x47,
+            needed: true,
+        },
+        two: Slot {
+            octet: whole,
+            needed: true,
+        },
+        instead: Slot {
+            octet: pieces,
+            needed: true,
+        },
+        tiles: NEVER,
+        ..NO_SLOTS
+    }
+}
+
+// A part that is enciphered: an octet string, which is its content.
 fn enciphered_slots(octet: usize) -> Slots
     ensures { result ≡ enciphered_slots octet }
 {
     Slots {
-        octet,
-        looked: false,
-        free: false,
-        one: Slot {
-            octet: 0x47,
-            needed: true,
-        },
-        two: Slot {
-            octet: 0x04,
-            needed: true,
-        },
-        instead: Slot {
-            octet: 0x24,
-            needed: true,
-        },
-        tiles: NEVER,
-        within: 0,
-        identifier: NO_ITEM,
-        logical: 0,
-        portions: 0,
-        never: 0,
-        neither: 0,
-        object: 0,
-        types: 0,
         content: 0x04, // enciphered information
         pieces: 0x24, // enciphered information in pieces
-        seal: 0,
+        ..protected_slots(octet, 0x04, 0x24)
     }
 }
 
-// A part that is sealed: 47, then a bit string, which is no content. Nothing names it.
+// A part that is sealed: a bit string, which is no content.
 fn sealed_slots(octet: usize) -> Slots
     ensures { result ≡ sealed_slots octet }
 {
     Slots {
-        octet,
-        looked: false,
-        free: false,
-        one: Slot {
-            octet: 0x47,
-            needed: true,
-        },
-        two: Slot {
-            octet: 0x03,
-            needed: true,
-        },
-        instead: Slot {
-            octet: 0x23,
-            needed: true,
-        },
-        tiles: NEVER,
-        within: 0,
-        identifier: NO_ITEM,
-        logical: 0,
-        portions: 0,
-        never: 0,
-        neither: 0,
-        object: 0,
-        types: 0,
-        content: 0,
-        pieces: 0,
         seal: 0x23,
+        ..protected_slots(octet, 0x03, 0x23)
     }
 }
 

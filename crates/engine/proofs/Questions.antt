@@ -1,5 +1,6 @@
 -- What the three questions answer, case by case.
 use mathlib.Core.Path.{◌≡◌, refl, sym, ◌∙◌, subst}
+use mathlib.Core.Logic.{◌⊎◌, inl, inr}
 use mathlib.Core.Bool.{Bool, true, false, cond, false≢true}
 use mathlib.Core.List.{List}
 use Prim.Native.Nat.{ℕ, ◌+◌, ◌<◌, ◌≤◌}
@@ -117,15 +118,17 @@ module _ (b : Blocks) (block : List ℕ) where
         goes_on = λ _. sound-of r g (subst (λ (x : State). OneToEight x.standing) (sym f) (one-to-eight (state_of b) block (sound-found b s)));
       }
 
-module _ (b : Blocks) (s : sound b ≡ true) where
-  pub closed-early : (b.taken ≡ b.total → ⊥) → record { number = 29; place = 0; headers = 0 } ≡ closed_of b
+module _ (b : Blocks) where
+  pub closed-early : (sound b ≡ false) ⊎ ((sound b ≡ true) × (b.taken ≡ b.total → ⊥)) → record { number = 29; place = 0; headers = 0 } ≡ closed_of b
   unfolding close
-  closed-early n = rw (s, ne_eqb b.taken b.total n)
+  closed-early (inl u) = rw u
+  closed-early (inr (s, n)) = rw (s, ne_eqb b.taken b.total n)
 
-  pub closed-found : b.taken ≡ b.total → (b.number ≡ 0 → ⊥) → record { number = b.number; place = b.place; headers = b.headers } ≡ closed_of b
-  unfolding close
-  closed-found e n = rw (s, eq-eqb b.taken b.total e, ne_eqb b.number 0 n)
+  module _ (s : sound b ≡ true) (e : b.taken ≡ b.total) where
+    pub closed-found : (b.number ≡ 0 → ⊥) → record { number = b.number; place = b.place; headers = b.headers } ≡ closed_of b
+    unfolding close
+    closed-found n = rw (s, eq-eqb b.taken b.total e, ne_eqb b.number 0 n)
 
-  pub closed-read : b.taken ≡ b.total → b.number ≡ 0 → record { number = 0; place = 0; headers = b.headers } ≡ closed_of b
-  unfolding close
-  closed-read e z = rw (s, eq-eqb b.taken b.total e, eq-eqb b.number 0 z)
+    pub closed-read : b.number ≡ 0 → record { number = b.number; place = 0; headers = b.headers } ≡ closed_of b
+    unfolding close
+    closed-read z = rw (s, eq-eqb b.taken b.total e, eq-eqb b.number 0 z, z)

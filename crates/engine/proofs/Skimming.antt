@@ -2,7 +2,7 @@
 use mathlib.Core.Path.{◌≡◌, refl, ap, sym, ◌∙◌, subst}
 use mathlib.Core.Bool.{Bool, true, false, cond, false≢true}
 use mathlib.Core.List.{List, [], ◌∷◌}
-use Prim.Native.Nat.{ℕ, zero, suc, ◌+◌, ◌-◌, ◌<◌, ◌≤◌, min}
+use Prim.Native.Nat.{ℕ, suc, ◌+◌, ◌-◌, ◌<◌, ◌≤◌, min}
 use native.Mathlib.Omega.{arith}
 use native.Mathlib.Numerals.{add-one}
 use lib.Dec.{eqb, leb}
@@ -22,14 +22,9 @@ use Rattle.engine.specs.declared.skim.Seat.{Seat}
 use Rattle.engine.specs.declared.skim.Skim.{Skim}
 use Rattle.engine.specs.Stored.{open_of, opens_of, state_of}
 use Rattle.engine.specs.Skimming.{FineIfReading, at_header, back, Seen, Turns, place_of, GoesOn, Reads, Skims, Before, Settles, left_by}
-use Rattle.engine.proofs.Stores.{settle-going, pushed, level-is}
+use Rattle.engine.proofs.Stores.{one_less, pushed, level-is}
 use Rattle.engine.proofs.Turning.{values}
 use Rattle.engine.proofs.Seeing.{seen}
-
--- one open item less
-one_less : (n : ℕ) (ends : List ℕ) → drop 1 (opens_of n ends) ≡ opens_of (n - 1) ends
-one_less zero ends = refl
-one_less (suc n) ends = let e : suc n - 1 ≡ n = omega arith in rw e
 
 through : (a b c : ℕ) → a ≤ b → b ≤ c → a ≤ c
 through a b c x y = omega arith
@@ -227,12 +222,6 @@ ready b z h t = rw (eq-eqb b.number 0 z, h, ← t)
 pub none-turn : (b : Blocks) (block : List ℕ) (start : ℕ) → FineIfReading b → start ≤ length block → b.taken + (length block - start) ≤ b.total
     → Turns b block start b start
 none-turn b block start s l f = record { further = omega arith; within = l; fits = f; total = refl; fine = s; state = refl }
-
--- before the limit no item ends
-pub settle-open : (total n : ℕ) (ends : List ℕ) (at k : ℕ) → at < limit_of total (opens_of n ends)
-    → settle k (opens_of n ends) at ≡ reading k (opens_of n ends) at []
-settle-open total zero ends at k l = refl
-settle-open total (suc n) ends at k l = settle-going (suc n) ends (omega arith) at k (let e : suc n - 1 ≡ n = omega arith in rw e l)
 
 -- what is told of the skimming after one header more
 pub record Turned (seat : Seat) (s : Skim) (ends block : List ℕ) (r : Skim) (after : List ℕ) : Type 0 where
@@ -549,50 +538,6 @@ settle-stops total k at (o ∷ outer) ps l e = go (leb o.bound at) o.marked refl
 module _ (seat : Seat) (ends : List ℕ) (s : Skim) (b : Before seat ends s) where
   abbrev next : ℕ
   next = place_of seat s.i
-
-  pub settles-inside : s.i < s.stop → Settles seat ends s s
-  settles-inside l =
-      record {
-        depth = b.depth;
-        headers = refl;
-        stays = λ _. refl;
-        past = λ _. refl;
-        same = λ _. refl;
-        all = λ z n. absurd (n z);
-        run = λ z _. (l, b.run z l);
-        state =
-            λ z _.
-            let from = b.from in
-            let stop = (b.run z l).stop in
-            let open_still : next < limit_of seat.total (opens_of s.level ends) = omega arith in
-            rw (eq-eqb s.number 0 z) (settle-open seat.total s.level ends next s.headers open_still);
-      }
-
-  pub settles-found : (s.number ≡ 0 → ⊥) → Settles seat ends s s
-  settles-found ne =
-      record {
-        depth = b.depth;
-        headers = refl;
-        stays = λ _. refl;
-        past = λ _. refl;
-        same = λ _. refl;
-        all = λ z _. absurd (ne z);
-        run = λ z _. absurd (ne z);
-        state = λ z _. absurd (ne z);
-      }
-
-  pub settles-past : seat.size < s.i → Settles seat ends s s
-  settles-past far =
-      record {
-        depth = b.depth;
-        headers = refl;
-        stays = λ _. refl;
-        past = λ _. refl;
-        same = λ _. refl;
-        all = λ z n. absurd (n z);
-        run = λ _ h. absurd (omega arith);
-        state = λ _ h. absurd (omega arith);
-      }
 
   module _ (z : s.number ≡ 0) (near : s.i ≤ seat.size) where
     pub settles-unclosed : (place : ℕ) → settle s.headers (opens_of s.level ends) next ≡ found 7 place s.headers

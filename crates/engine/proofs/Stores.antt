@@ -2,13 +2,13 @@
 use mathlib.Core.Path.{◌≡◌, refl, ap, sym, ◌∙◌, subst}
 use mathlib.Core.Bool.{Bool, true, false}
 use mathlib.Core.List.{List, [], ◌∷◌, ◌++◌}
-use Prim.Native.Nat.{ℕ, zero, suc, ◌+◌, ◌-◌, ◌/◌, ◌%◌, ◌<◌, ◌≤◌, min}
+use Prim.Native.Nat.{ℕ, zero, suc, ◌+◌, ◌-◌, ◌/◌, ◌%◌, ◌<◌, ◌≤◌}
 use native.Mathlib.Omega.{arith}
 use native.Mathlib.Numerals.{add-one}
 use lib.Dec.{leb, ltb, eqb}
-use lib.ListN.{length, get_or, set, take, drop, take-append-drop, length-set, get_or-eq_default}
-use lib.Seq.{get_or-set_other, get_or-set_same, get_or-take, length-take-le, take-suc-set}
-use borrow.Author.Tests.{le-leb, lt-leb, eq-eqb, ne_eqb, lt-ltb, le-ltb}
+use lib.ListN.{length, get_or, set, take, drop, take-append-drop, length-set}
+use lib.Seq.{get_or-set_other, get_or-set_same, length-take-le, take-suc-set}
+use borrow.Author.Tests.{le-leb, lt-leb, eq-eqb, ne_eqb}
 use Rattle.headers.specs.declared.Header.{Header}
 use Rattle.headers.specs.declared.Head.{Head}
 use Rattle.headers.specs.declared.Head.TheVariants.{Item, ClosingMark, Refusal}
@@ -37,6 +37,11 @@ module _ (n : ℕ) (ends : List ℕ) (h : 0 < n) (at : ℕ) (k : ℕ) where
 
   pub settle-ended : e / 2 ≤ at → (e % 2 ≡ 1 → ⊥) → settle k (opens_of n ends) at ≡ settle k (opens_of (n - 1) ends) at
   settle-ended l m = rw (innermost n ends h, le-leb (e / 2) at l, ne_eqb (e % 2) 1 m)
+
+-- one open item less
+pub one_less : (n : ℕ) (ends : List ℕ) → drop 1 (opens_of n ends) ≡ opens_of (n - 1) ends
+one_less zero ends = refl
+one_less (suc n) ends = let e : suc n - 1 ≡ n = omega arith in rw e
 
 -- what lies past the open items does not matter
 pub others : (n i : ℕ) (ends : List ℕ) (v : ℕ) → n ≤ i → opens_of n (set ends i v) ≡ opens_of n ends
@@ -72,31 +77,10 @@ mark-fits limit at room head e o =
 pub refusal-numbered : (head : Head) (number place : ℕ) → head ≡ Refusal number place → Numbered head → (0 < number) × (number ≤ 8) × (place ≡ 0)
 refusal-numbered head number place e o = subst Numbered e o
 
--- an octet of those kept, and one that has not come
-pub octet-kept : (have : ℕ) (octets : List ℕ) (i : ℕ) → i < have → octet_at (take have octets) i ≡ octet_at octets i
-octet-kept have octets i h = get_or-take have octets i 0 h
-
-pub octet-missing : (have : ℕ) (octets : List ℕ) (i : ℕ) → have ≤ length octets → have ≤ i → octet_at (take have octets) i ≡ 0
-octet-missing have octets i l h = get_or-eq_default (take have octets) 0 (let n = length-take-le have octets l in omega arith)
-
--- how many octets the type field has, by its first two
-pub field-one : (b : List ℕ) → (octet_at b 0 % 32 ≡ 31 → ⊥) → field_size b ≡ 1
-field-one b n = rw (ne_eqb (octet_at b 0 % 32) 31 n)
-
-pub field-two : (b : List ℕ) → octet_at b 0 % 32 ≡ 31 → octet_at b 1 < 0x80 → field_size b ≡ 2
-field-two b n l = rw (eq-eqb (octet_at b 0 % 32) 31 n, lt-ltb (octet_at b 1) 0x80 l)
-
-pub field-three : (b : List ℕ) → octet_at b 0 % 32 ≡ 31 → 0x80 ≤ octet_at b 1 → field_size b ≡ 3
-field-three b n l = rw (eq-eqb (octet_at b 0 % 32) 31 n, le-ltb (octet_at b 1) 0x80 l)
-
+-- how many octets a header has
 pub wanted-is : (b : List ℕ) (field more : ℕ) → field ≡ field_size b → more ≡ further (octet_at b field) → field + 1 + more ≡ wanted b
 unfolding wanted
 wanted-is b field more e f = rw (f, e)
-
-pub whole_is : (have : ℕ) (octets : List ℕ) (left m : ℕ) → have ≤ length octets → min (wanted (take have octets)) left ≡ m
-    → leb m have ≡ whole (take have octets) left
-unfolding whole
-whole_is have octets left m h e = rw (e, length-take-le have octets h)
 
 -- one octet more is kept
 pub kept_more : (n : ℕ) (octets : List ℕ) (x : ℕ) → n < length octets → take (n + 1) (set octets n x) ≡ take n octets ++ (x ∷ [])

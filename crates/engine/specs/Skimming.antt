@@ -1,10 +1,11 @@
 -- What the engine's own functions say, of a state, of a header and of the headers that lie in a block. No public contract cites this page.
-use Rattle.std.specs.Prelude.{ℕ, ◌+◌, ◌-◌, ◌<◌, ◌≤◌, min, ◌≡◌, cond, List, [], take, drop, length, eqb}
+use Rattle.std.specs.Prelude.{ℕ, ◌+◌, ◌-◌, ◌<◌, ◌≤◌, min, ◌≡◌, cond, List, [], take, drop, length, eqb, Result, Ok, Err}
 use Rattle.headers.specs.declared.Head.{Head}
 use Rattle.headers.specs.declared.Head.TheVariants.{Item, ClosingMark, Refusal}
 use Rattle.octets.specs.Walk.{stream_limit, deepest}
 use Rattle.blocks.specs.Engine.{Open, Standing, reading, found, State, limit_of, marked_of, settle, arrive, feed, decide}
 use Rattle.engine.specs.declared.Blocks.{Blocks}
+use Rattle.engine.specs.declared.ends.Unclosed.{Unclosed}
 use Rattle.engine.specs.declared.skim.Seat.{Seat}
 use Rattle.engine.specs.declared.skim.Skim.{Skim}
 use Rattle.engine.specs.Stored.{opens_of, state_of}
@@ -34,6 +35,11 @@ pub record Comes (b : Blocks) (w : Standing) (r : Blocks) : Type 0 where
   pub depth : r.level ≤ deepest
   pub kept : r.have ≤ 7
   pub headers : r.headers ≡ b.headers
+
+-- what closing the items that end at a place leaves: so many open ones, or the one that was not closed
+abbrev pub Closes : (level : ℕ) → (ends : List ℕ) → (at : ℕ) → Result ℕ Unclosed → Type 0
+Closes level ends at (Ok left) = (left ≤ deepest) × ((k : ℕ) → settle k (opens_of level ends) at ≡ reading k (opens_of left ends) at [])
+Closes level ends at (Err u) = (u.level ≤ deepest) × ((k : ℕ) → settle k (opens_of level ends) at ≡ found 7 u.place k)
 
 -- where a header lies that was read from its own octets, with so many octets left before the limit and so many levels
 abbrev pub Lying : (left room : ℕ) → Head → Type 0

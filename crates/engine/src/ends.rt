@@ -1,55 +1,34 @@
 // The open items, by their ends: each is stored twice, and one more if the item waits for its closing mark.
-ghost use Rattle.std.specs.Prelude.{◌≡◌, cond, [], ℕ, ◌≤◌, ◌/◌};
-ghost use Rattle.blocks.specs.Engine.{settle, found, reading, limit_of, marked_of};
+ghost use Rattle.std.specs.Prelude.{◌≡◌, ◌≤◌};
+ghost use Rattle.blocks.specs.Engine.{limit_of, marked_of};
 ghost use Rattle.engine.specs.Stored.{open_of, opens_of};
+ghost use Rattle.engine.specs.Skimming.{Closes};
 
-use super::wide;
-
-// What closing the items that end at a place leaves: so many open items, or the end at which one was not closed.
+// An item that waits for its closing mark where it ends: the innermost of so many open items, and its end.
 #[derive(Clone, Copy)]
-pub struct Settled {
+pub struct Unclosed {
     pub level: usize,
-    pub unclosed: bool,
     pub place: u32,
 }
 
-// Closes every item that ends at `at`, or finds the one that waits for its mark there.
-pub fn close_ended(ends: &[u32; 16], level: usize, at: usize) -> Settled
+// Closes every item that ends at `at`, and tells how many are left open; or finds the one that waits for its mark there.
+pub fn close_ended(ends: &[u32; 16], level: usize, at: usize) -> Result<usize, Unclosed>
     requires { level ≤ 16 }
-    ensures { (result.level ≤ 16) × ((k : ℕ) → settle k (opens_of level ends.now) at
-        ≡ cond result.unclosed (found 7 result.place k) (reading k (opens_of result.level ends.now) at [])) }
+    ensures { Closes level ends.now at result }
 {
-    let mut n = level;
-    while 0 < n {
-        let e = ends[n - 1];
-        if at < wide(e / 2) {
-            return Settled {
-                level: n,
-                unclosed: false,
-                place: 0,
-            };
+    for i in (0..level).rev() {
+        let e = ends[i];
+        if at < (e / 2) as usize {
+            return Ok(i + 1);
         }
         if e % 2 == 1 {
-            return Settled {
-                level: n,
-                unclosed: true,
+            return Err(Unclosed {
+                level: i + 1,
                 place: e / 2,
-            };
+            });
         }
-        n -= 1;
     }
-    Settled {
-        level: 0,
-        unclosed: false,
-        place: 0,
-    }
-}
-
-// A stored end without its mark.
-fn bound_of(e: u32) -> usize
-    ensures { (result ≡ e / 2) × (result ≤ 2147483647) }
-{
-    wide(e / 2)
+    Ok(0)
 }
 
 // The limit of the run that is read.
@@ -60,9 +39,7 @@ pub fn limit_at(ends: &[u32; 16], level: usize, total: usize) -> usize
     if level == 0 {
         return total;
     }
-    let i = level - 1;
-    let e = ends[i];
-    bound_of(e)
+    (ends[level - 1] / 2) as usize
 }
 
 // Whether the innermost open item waits for its closing mark.
@@ -73,9 +50,7 @@ pub fn marked_at(ends: &[u32; 16], level: usize) -> bool
     if level == 0 {
         return false;
     }
-    let i = level - 1;
-    let e = ends[i];
-    e % 2 == 1
+    ends[level - 1] % 2 == 1
 }
 
 // The end of an open item, as it is stored.

@@ -5,7 +5,7 @@ ghost use Rattle.blocks.specs.Engine.{further, field_size, wanted, whole, arrive
 ghost use Rattle.engine.specs.Stored.{state_of};
 ghost use Rattle.engine.specs.Skimming.{opens, with_standing, Comes, Lying, Numbered};
 
-use super::{Blocks, ends, numbers, wide};
+use super::{Blocks, ends};
 use headers::Head;
 use octets::DEEPEST;
 
@@ -18,13 +18,13 @@ pub fn arrived(mut b: Blocks) -> Blocks
     if b.at != b.taken {
         return b;
     }
-    let ends = b.ends;
-    let s = ends::close_ended(&ends, b.level, b.at);
-    b.level = s.level;
-    if s.unclosed {
-        b.number = 7;
-        b.place = s.place;
-        return b;
+    match ends::close_ended(&b.ends, b.level, b.at) {
+        Ok(level) => b.level = level,
+        Err(unclosed) => {
+            b.level = unclosed.level;
+            b.number = 7;
+            b.place = unclosed.place;
+        }
     }
     b
 }
@@ -60,10 +60,7 @@ fn decided(mut b: Blocks, limit: usize, head: Head) -> Blocks
         }
         Head::ClosingMark => {
             b.at = at + 2;
-            if b.level == 0 {
-                return arrived(b);
-            }
-            b.level = b.level - 1;
+            b.level = b.level.saturating_sub(1);
             arrived(b)
         }
         Head::Refusal { number, place } => {
@@ -79,66 +76,45 @@ fn decided(mut b: Blocks, limit: usize, head: Head) -> Blocks
 fn further_of(first: u8) -> usize
     ensures { (result ≡ further first) × (result ≤ 4) }
 {
-    if first < 0x80 {
-        return 0;
+    match first {
+        0x81..=0x84 => (first - 0x80) as usize,
+        _ => 0,
     }
-    if first < 0x85 {
-        return widened(first - 0x80);
-    }
-    0
-}
-
-fn widened(x: u8) -> usize
-    ensures { result ≡ x }
-{
-    x as usize
 }
 
 // An octet of those kept, or 0 if it has not come.
-fn octet_of(octets: &[u8; 8], have: usize, i: usize) -> u8
-    requires { (have ≤ 8) × (have ≤ length octets.now) }
-    ensures { result ≡ octet_at (take have octets.now) i }
+fn octet_of(kept: &[u8], i: usize) -> u8
+    ensures { result ≡ octet_at kept.now i }
 {
-    if have <= i {
-        return 0;
-    }
-    octets[i]
+    kept.get(i).copied().unwrap_or(0)
 }
 
-// How many octets the type field has of a header of which so many octets are kept, as far as they tell.
-fn field_size_of(octets: &[u8; 8], have: usize) -> usize
-    requires { (have ≤ 8) × (have ≤ length octets.now) }
-    ensures { (result ≡ field_size (take have octets.now)) × (result ≤ 3) }
+// How many octets the type field has of a header of which these octets are kept, as far as they tell.
+fn field_size_of(kept: &[u8]) -> usize
+    ensures { (result ≡ field_size kept.now) × (result ≤ 3) }
 {
-    if octet_of(octets, have, 0) % 32 != 31 {
+    if octet_of(kept, 0) % 32 != 31 {
         return 1;
     }
-    if octet_of(octets, have, 1) < 0x80 {
+    if octet_of(kept, 1) < 0x80 {
         return 2;
     }
     3
 }
 
 // How many octets the header has.
-fn wanted_of(octets: &[u8; 8], have: usize) -> usize
-    requires { (have ≤ 8) × (have ≤ length octets.now) }
-    ensures { (result ≡ wanted (take have octets.now)) × (result ≤ 8) }
+fn wanted_of(kept: &[u8]) -> usize
+    ensures { (result ≡ wanted kept.now) × (result ≤ 8) }
 {
-    let field = field_size_of(octets, have);
-    let first = octet_of(octets, have, field);
-    field + 1 + further_of(first)
+    let field = field_size_of(kept);
+    field + 1 + further_of(octet_of(kept, field))
 }
 
 // Whether the header has come.
-fn is_whole(octets: &[u8; 8], have: usize, left: usize) -> bool
-    requires { (have ≤ 8) × (have ≤ length octets.now) }
-    ensures { (result ≡ whole (take have octets.now) left) × (result ≡ false → have < 8) }
+fn is_whole(kept: &[u8], left: usize) -> bool
+    ensures { (result ≡ whole kept.now left) × (result ≡ false → length kept.now < 8) }
 {
-    let w = wanted_of(octets, have);
-    if left < w {
-        return left <= have;
-    }
-    w <= have
+    wanted_of(kept).min(left) <= kept.len()
 }
 
 // One octet more of a header, which has been counted.
@@ -147,17 +123,15 @@ pub fn header_octet(mut b: Blocks, octet: u8) -> Blocks
     ensures { (state_of result ≡ with_standing b (in_header b.total b.taken b.headers (opens b) b.at (take b.have b.begun ++ (octet ∷ []))))
         × (result.level ≤ 16) × (result.have ≤ 7) × (result.headers ≤ b.headers + 1) }
 {
-    let n = wide(b.have);
+    let n = b.have as usize;
     b.begun[n] = octet;
     b.have = b.have + 1;
-    let ends = b.ends;
-    let limit = ends::limit_at(&ends, b.level, b.total);
-    let left = numbers::without(limit, b.at);
-    let octets = b.begun;
-    if !is_whole(&octets, n + 1, left) {
+    let limit = ends::limit_at(&b.ends, b.level, b.total);
+    let left = limit.saturating_sub(b.at);
+    if !is_whole(&b.begun[..n + 1], left) {
         return b;
     }
-    let marked = ends::marked_at(&ends, b.level);
-    let head = headers::read_head(&octets, 0, left, marked, DEEPEST - b.level);
+    let marked = ends::marked_at(&b.ends, b.level);
+    let head = headers::read_head(&b.begun, 0, left, marked, DEEPEST - b.level);
     decided(b, limit, head)
 }

@@ -2,7 +2,7 @@
 // it keeps nothing else. Any caller may ask, with any state: what the crate `blocks` defines is what is answered.
 #![tactic(auto)]
 
-ghost use Rattle.std.specs.Prelude.{◌≡◌, true, ◌+◌, ◌≤◌, length};
+ghost use Rattle.std.specs.Prelude.{◌≡◌, ◌+◌, ◌≤◌, length};
 ghost use Rattle.blocks.specs.Engine.{feed};
 ghost use Rattle.blocks.specs.Blocks.{start};
 ghost use Rattle.engine.specs.Stored.{state_of, sound, Starts, Takes, closed_of};
@@ -12,13 +12,13 @@ use octets::{DEEPEST, STREAM_LIMIT};
 
 mod ends; // ends.rt: the open items
 mod header; // header.rt: a header that is cut, octet by octet
-mod numbers; // numbers.rt: two numbers
 mod skim; // skim.rt: the headers that lie in a block
 mod turn; // turn.rt: what the skimming leaves
 
 // The state: so many octets were told and so many have come; the next header stands at `at`, inside `level` open items, and `have` octets of it
 // are in `begun`; so many headers have passed. An end is stored twice, and one more if its item waits for a closing mark; the innermost
 // is the last. Or there is a finding: its number, not 0, and its place. (A total may be any number, and its octets are counted.)
+// It stays a struct of plain numbers, with 0 for no finding, since a C program holds it: `#[repr(C)]`.
 #[repr(C)]
 #[derive(Clone, Copy)]
 pub struct Blocks {
@@ -34,7 +34,7 @@ pub struct Blocks {
     pub begun: [u8; 8],
 }
 
-// A number, 0 or a refusal, and a state.
+// A number, 0 or a refusal, and a state. It stays a number, and no Result, since C reads it: `#[repr(C)]`.
 #[repr(C)]
 #[derive(Clone, Copy)]
 pub struct Taken {
@@ -42,7 +42,7 @@ pub struct Taken {
     pub state: Blocks,
 }
 
-// What the walk of a letter tells: its number and place, and the header count.
+// What the walk of a letter tells: its number and place, and the header count. It stays three numbers, since C reads it: `#[repr(C)]`.
 #[repr(C)]
 #[derive(Clone, Copy)]
 pub struct Walked {
@@ -66,12 +66,6 @@ const LAST_FINDING: u32 = 8;
 const PAST_TOTAL: u32 = 28;
 
 const EARLY: u32 = 29;
-
-fn wide(x: u32) -> usize
-    ensures { result ≡ x }
-{
-    x as usize
-}
 
 // The refusal of a total: 1 if it is too long.
 fn refusal_of(total: usize) -> u32
@@ -109,25 +103,13 @@ pub fn start(total: usize) -> Taken
 fn is_sound(b: Blocks) -> bool
     ensures { result ≡ sound b }
 {
-    if LAST_FINDING < b.number {
-        return false;
-    }
     if b.number != 0 {
-        return true;
+        return b.number <= LAST_FINDING;
     }
-    if DEEPEST < b.level {
-        return false;
-    }
-    if 7 < b.have {
-        return false;
-    }
-    if b.taken < wide(b.headers) {
-        return false;
-    }
-    b.total <= STREAM_LIMIT
+    b.level <= DEEPEST && b.have <= 7 && b.headers as usize <= b.taken && b.total <= STREAM_LIMIT
 }
 
-// The state after a block that is not past the total.
+// The state after a block that is not past the total. (Each turn tells the place of the next, so the loop goes over no range.)
 fn fed(b: Blocks, block: &[u8]) -> Blocks
     requires { FineIfReading b × (b.taken + length block.now ≤ b.total) }
     ensures { FineIfReading result × (state_of result ≡ feed (state_of b) block.now) }
@@ -149,20 +131,7 @@ fn fed(b: Blocks, block: &[u8]) -> Blocks
 pub fn take(b: Blocks, block: &[u8]) -> Taken
     ensures { Takes b block.now result }
 {
-    let n = block.len();
-    if !is_sound(b) {
-        return Taken {
-            number: PAST_TOTAL,
-            state: b,
-        };
-    }
-    if b.total < b.taken {
-        return Taken {
-            number: PAST_TOTAL,
-            state: b,
-        };
-    }
-    if b.total - b.taken < n {
+    if !is_sound(b) || b.total < b.taken || b.total - b.taken < block.len() {
         return Taken {
             number: PAST_TOTAL,
             state: b,
@@ -178,30 +147,17 @@ pub fn take(b: Blocks, block: &[u8]) -> Taken
 pub fn close(b: Blocks) -> Walked
     ensures { record { number = result.number; place = result.place; headers = result.headers } ≡ closed_of b }
 {
-    if !is_sound(b) {
+    if !is_sound(b) || b.taken != b.total {
         return Walked {
             number: EARLY,
             place: 0,
             headers: 0,
         };
     }
-    if b.taken != b.total {
-        return Walked {
-            number: EARLY,
-            place: 0,
-            headers: 0,
-        };
-    }
-    if b.number != 0 {
-        return Walked {
-            number: b.number,
-            place: b.place,
-            headers: b.headers,
-        };
-    }
+    let place = if b.number == 0 { 0 } else { b.place };
     Walked {
-        number: 0,
-        place: 0,
+        number: b.number,
+        place,
         headers: b.headers,
     }
 }

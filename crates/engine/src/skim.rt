@@ -5,7 +5,7 @@ ghost use Rattle.headers.specs.Head.{head_at};
 ghost use Rattle.engine.specs.Stored.{opens_of};
 ghost use Rattle.engine.specs.Skimming.{FineIfReading, Turns, GoesOn, Reads, Skims, Before, Settles, left_by};
 
-use super::{Blocks, Moved, ends, numbers};
+use super::{Blocks, Moved, ends};
 use headers::Head;
 use octets::DEEPEST;
 
@@ -20,7 +20,8 @@ pub struct Seat {
 
 // Where the skimming of a block stands: the next header is at `i` of the block, or past its end, inside `level` open items. The run that is
 // read there goes on to `stop` of the block, and waits for a closing mark if it is `marked`; a `stop` that is not past `i` tells
-// nothing. Or there is a finding, and then all of the block is taken.
+// nothing. Or there is a finding, and then all of the block is taken. (Its number and place stay as the state has them, 0 for none: an Option
+// would be no plainer, since `left` would take it apart again at once.)
 #[derive(Clone, Copy)]
 pub struct Skim {
     pub level: usize,
@@ -52,13 +53,11 @@ fn finding(s: Skim, size: usize, number: u32, place: u32) -> Skim
     ensures { result ≡ record { level = s.level; i = size; stop = 0; marked = s.marked; headers = s.headers; number = number; place = place } }
 {
     Skim {
-        level: s.level,
         i: size,
         stop: 0,
-        marked: s.marked,
-        headers: s.headers,
         number,
         place,
+        ..s
     }
 }
 
@@ -69,10 +68,7 @@ fn stop_at(ends: &[u32; 16], level: usize, seat: Seat) -> usize
         × (limit_of seat.total (opens_of level ends.now) ≤ 2147483647) }
 {
     let limit = ends::limit_at(ends, level, seat.total);
-    if limit < seat.base {
-        return seat.from;
-    }
-    seat.from + (limit - seat.base)
+    seat.from + limit.saturating_sub(seat.base)
 }
 
 // The skimming goes on at i, inside so many open items.
@@ -106,13 +102,7 @@ fn skim_one(ends: &mut [u32; 16], s: Skim, seat: Seat, block: &[u8], head: Head)
         }
         Head::ClosingMark => {
             let next = s.i + 2;
-            going(
-                numbers::without(s.level, 1),
-                next,
-                next,
-                s.marked,
-                s.headers,
-            )
+            going(s.level.saturating_sub(1), next, next, s.marked, s.headers)
         }
         Head::Refusal { number, place } => finding(
             s,
@@ -137,24 +127,17 @@ fn settled(ends: &[u32; 16], s: Skim, seat: Seat) -> Skim
     if seat.size < s.i {
         return s;
     }
-    let c = ends::close_ended(ends, s.level, seat.base + (s.i - seat.from));
-    if c.unclosed {
-        return finding(s, seat.size, 7, c.place);
+    match ends::close_ended(ends, s.level, seat.base + (s.i - seat.from)) {
+        Ok(level) => go_on(ends, seat, level, s.i, s.headers),
+        Err(unclosed) => finding(s, seat.size, 7, unclosed.place),
     }
-    go_on(ends, seat, c.level, s.i, s.headers)
 }
 
 // Whether the engine stands before a header of which nothing has come.
 fn is_ready(b: Blocks) -> bool
     ensures { result ≡ true → (b.number ≡ 0) × (b.have ≡ 0) × (b.at ≡ b.taken) }
 {
-    if b.number != 0 {
-        return false;
-    }
-    if b.have != 0 {
-        return false;
-    }
-    b.at == b.taken
+    b.number == 0 && b.have == 0 && b.at == b.taken
 }
 
 // The state in which the skimming of a block leaves the engine.
@@ -162,7 +145,7 @@ fn left(b: Blocks, ends: [u32; 16], s: Skim, seat: Seat) -> Moved
     requires { (seat.from ≤ s.i) × (seat.from ≤ seat.size) × (seat.base + (s.i - seat.from) ≤ 4294967295) }
     ensures { (result.state ≡ left_by seat b.begun ends s) × (result.to ≡ min s.i seat.size) }
 {
-    let to = numbers::smaller(s.i, seat.size);
+    let to = s.i.min(seat.size);
     let begun = b.begun;
     Moved {
         state: Blocks {
@@ -181,7 +164,7 @@ fn left(b: Blocks, ends: [u32; 16], s: Skim, seat: Seat) -> Moved
     }
 }
 
-// The headers that lie in the block one after another, with their values.
+// The headers that lie in the block one after another, with their values. (A header tells the place of the next: the loop goes over no range.)
 pub fn skim_block(b: Blocks, block: &[u8], from: usize) -> Moved
     requires { FineIfReading b × (from ≤ length block.now) × (b.taken + (length block.now - from) ≤ b.total) × (length block.now ≤ b.total) }
     ensures { Turns b block.now from result.state result.to }
@@ -201,7 +184,7 @@ pub fn skim_block(b: Blocks, block: &[u8], from: usize) -> Moved
         return Moved { state: b, to: from };
     }
     while s.i + 8 <= seat.size {
-        let head = headers::head_apart(block, s.i, s.stop, s.marked, DEEPEST - s.level);
+        let head = headers::head_at(block, s.i, s.stop, s.marked, DEEPEST - s.level);
         let k = skim_one(&mut ends, s, seat, block, head);
         s = settled(&ends, k, seat);
     }

@@ -4,7 +4,7 @@ ghost use Rattle.blocks.specs.Engine.{arrive, step};
 ghost use Rattle.engine.specs.Stored.{standing_of, state_of};
 ghost use Rattle.engine.specs.Skimming.{opens, Fine, FineIfReading, Turns};
 
-use super::{Blocks, Moved, header, numbers};
+use super::{Blocks, Moved, header};
 
 // After a finding the octets are counted.
 fn counted(mut b: Blocks, n: usize, i: usize) -> Blocks
@@ -25,7 +25,7 @@ fn passed(mut b: Blocks, n: usize, i: usize) -> Moved
           standing = arrive (b.taken + (result.to - i)) b.headers (opens b) b.at;
         }) }
 {
-    let k = numbers::smaller(b.at - b.taken, n - i);
+    let k = (b.at - b.taken).min(n - i);
     b.taken = b.taken + k;
     Moved {
         state: header::arrived(b),

@@ -4,37 +4,38 @@
 ghost use Rattle.std.specs.Prelude.{◌≡◌, ◌<◌, length};
 ghost use Rattle.octets.specs.Walk.{ends};
 ghost use Rattle.fronts.specs.First.{walk_first};
-ghost use Rattle.fronts.specs.FirstItem.{BeginsWith};
+ghost use Rattle.fronts.specs.FirstItem.{FirstItem, BeginsWith};
 
-use octets::{DEEPEST, Outcome};
-use runs::{Met, Run};
+use headers::Refusal;
+use octets::DEEPEST;
+use runs::Run;
 
-// What a stream begins with: an item that is whole, with the run inside it, or a refusal by 2 to 8.
+// The first item of a stream, which is whole: the code of its type field, and the run inside it.
 #[derive(Clone, Copy)]
-pub enum First {
-    Item { code: usize, inner: Run },
-    Refused { number: usize, place: usize },
+pub struct First {
+    pub code: usize,
+    pub inner: Run,
 }
 
-// The first item of a stream that is not empty, walked alone: no octet after it is read. The date of its run is `date_in`'s.
-pub fn first_item(s: &[u8]) -> First
+// The first item of a stream that is not empty, walked alone, or its refusal by 2 to 8: no octet after it is read. The date of its run is
+// `date_in`'s.
+pub fn first_item(s: &[u8]) -> Result<First, Refusal>
     requires { 0 < length s.now }
     ensures { BeginsWith s.now result }
 {
     match octets::walk_one(s, 0, s.len(), DEEPEST) {
-        Outcome::Refused {
-            number,
-            place,
-            count: _,
-        } => First::Refused { number, place },
-        Outcome::Ended { at: next, count: _ } => inside_first(s, next),
+        Ok(ended) => Ok(inside_first(s, ended.at)),
+        Err(refused) => Err(Refusal {
+            number: refused.number,
+            place: refused.place,
+        }),
     }
 }
 
-// The run inside the first item, which is whole and ends at `next`.
+// The first item, which is whole and ends at `next`. Its run alone has it, so it is met.
 fn inside_first(s: &[u8], next: usize) -> First
     requires { (0 < length s.now) × ((walk_first s.now).how ≡ ends next) }
-    ensures { BeginsWith s.now result }
+    ensures { FirstItem s.now result.code result.inner }
 {
     let alone = Run {
         at: 0,
@@ -42,17 +43,11 @@ fn inside_first(s: &[u8], next: usize) -> First
         marked: false,
         room: DEEPEST,
     };
-    match runs::meet(s, alone) {
-        Met::End => First::Refused {
-            number: 0,
-            place: 0,
-        },
-        Met::Item {
-            code,
-            first: _,
-            past: _,
-            inner,
-            rest: _,
-        } => First::Item { code, inner },
+    let Some(item) = runs::meet(s, alone) else {
+        unreachable!()
+    };
+    First {
+        code: item.code,
+        inner: item.inner,
     }
 }

@@ -1,5 +1,6 @@
 -- Reading at a position is refused by a number exactly when its condition holds and no earlier one does (`refused-exactly`), and passes
 -- exactly where none holds: by cases, as `head_at` has them.
+use Rattle.std.specs.Prelude.{Result, Err}
 use mathlib.Core.Path.{◌≡◌, refl, ap, sym, ◌∙◌, subst}
 use mathlib.Core.Logic.{◌⊎◌, inl, inr, ◌↔◌}
 use mathlib.Core.Bool.{Bool, true, false, cond, true≢false, false≢true}
@@ -13,9 +14,8 @@ use borrow.Table.Steps.{cases}
 use Rattle.headers.specs.declared.Head.{Head}
 use Rattle.headers.specs.declared.Head.TheVariants.{Item, ClosingMark, Refusal}
 use Rattle.headers.specs.declared.Field.{Field}
-use Rattle.headers.specs.declared.Field.TheVariants.{Read, Wrong}
 use Rattle.headers.specs.Head.{number_bits, constructed, is_in, form_allowed, above_thirty, code_of, big_endian, misfits, octet_at, definite_at, indefinite_at}
-use Rattle.headers.specs.Head.{long_at, by_first, length_at, after_field, closing_at, item_at, head_at}
+use Rattle.headers.specs.Head.{read_field, long_at, by_first, length_at, after_field, closing_at, item_at, head_at}
 use Rattle.headers.specs.Conditions.{ItemThere, LongNumber, FieldTo, one, two, three, HeaderHas, second, third, first_length, last_length, ValueIs}
 use Rattle.headers.specs.Conditions.{short, long}
 use Rattle.headers.specs.Conditions.{WrongNumber, over, led_by_80, under_31, no_octet, HeadRefused}
@@ -304,7 +304,7 @@ module _ (s : List ℕ) (at limit : ℕ) where
               })
 
       -- the type field, and what follows it
-      abbrev After : Field → Type 0
+      abbrev After : Result Field ℕ → Type 0
       After field = Verdict (after_field s at limit field)
 
       five-one : (LongNumber s at → ⊥) → form_allowed x ≡ true → Five → ⊥
@@ -322,7 +322,7 @@ module _ (s : List ℕ) (at limit : ℕ) where
 
       module _ (h3 : room ≡ 0 → ⊥) where
         missing : LongNumber s at → {p : ℕ} → HeaderHas s at limit p → limit ≤ p → (WrongNumber s at limit → ⊥) →
-            ((p : ℕ) → FieldTo s at limit p → ⊥) → After (Wrong 7)
+            ((p : ℕ) → FieldTo s at limit p → ⊥) → After (Err 7)
         missing b h far right cut =
             record {
               here = refl;
@@ -331,7 +331,7 @@ module _ (s : List ℕ) (at limit : ℕ) where
                   (never 8 7 (omega arith));
             }
 
-        four : LongNumber s at → WrongNumber s at limit → After (Wrong 4)
+        four : LongNumber s at → WrongNumber s at limit → After (Err 4)
         four b w =
             record {
               here = refl;
@@ -340,7 +340,7 @@ module _ (s : List ℕ) (at limit : ℕ) where
                   (never 8 4 (omega arith));
             }
 
-        five : Refuses 5 → (LongNumber s at × WrongNumber s at limit → ⊥) → After (Wrong 5)
+        five : Refuses 5 → (LongNumber s at × WrongNumber s at limit → ⊥) → After (Err 5)
         five r right =
             record {
               here = refl;
@@ -351,7 +351,7 @@ module _ (s : List ℕ) (at limit : ℕ) where
 
         -- a number that was read whole
         numbered : LongNumber s at → (code past : ℕ) → FieldTo s at limit past → code / 32 % 2 ≡ x / 32 % 2 → 10 < code → (WrongNumber s at limit → ⊥)
-            → After (cond (is_in x above_thirty) (Read code past) (Wrong 5))
+            → After (cond (is_in x above_thirty) (read_field code past) (Err 5))
         numbered b code past f form large right =
             let high : 10 < x = omega arith in
             let fit : (len : ℕ) → misfits code len ≡ misfits x len = λ len. misfits-none code len large ∙ sym (misfits-none x len high) in
@@ -362,14 +362,16 @@ module _ (s : List ℕ) (at limit : ℕ) where
         field-verdict : After
             (cond (eqb (number_bits x) 31)
             (cond (ltb (at + 1) limit)
-            (cond (ltb y 31) (Wrong 4)
-            (cond (ltb y 0x80) (cond (is_in x above_thirty) (Read (code_of (x ∷ y ∷ [])) (at + 2)) (Wrong 5))
-            (cond (eqb y 0x80) (Wrong 4)
+            (cond (ltb y 31) (Err 4)
+            (cond (ltb y 0x80) (cond (is_in x above_thirty) (read_field (code_of (x ∷ y ∷ [])) (at + 2)) (Err 5))
+            (cond (eqb y 0x80) (Err 4)
             (cond (ltb y 0x100)
-            (cond (ltb (at + 2) limit) (cond (ltb z 0x80) (cond (is_in x above_thirty) (Read (code_of (x ∷ y ∷ z ∷ [])) (at + 3)) (Wrong 5)) (Wrong 4)) (Wrong 7))
-            (Wrong 4)))))
-            (Wrong 7))
-            (cond (form_allowed x) (Read x (at + 1)) (Wrong 5)))
+            (cond (ltb (at + 2) limit)
+            (cond (ltb z 0x80) (cond (is_in x above_thirty) (read_field (code_of (x ∷ y ∷ z ∷ [])) (at + 3)) (Err 5)) (Err 4))
+            (Err 7))
+            (Err 4)))))
+            (Err 7))
+            (cond (form_allowed x) (read_field x (at + 1)) (Err 5)))
         field-verdict =
             cond-holds After (eqb (number_bits x) 31)
             (λ n. let b = eqb-true (number_bits x) 31 n in

@@ -6,8 +6,8 @@ use native.Mathlib.Numerals.{add-one}
 use native.Mathlib.Omega.{arith}
 use native.Mathlib.Nat.{pow-suc, pow-le-pow_right}
 use lib.Dec.{lit<}
-use lib.ListN.{length, get_or, take, drop, length-drop}
-use lib.Seq.{take-suc, get_or-drop}
+use lib.ListN.{length, get_or, take}
+use lib.Seq.{take-suc}
 use Rattle.headers.specs.Head.{big_endian, big_endian_from}
 
 -- an octet more, at the end
@@ -16,11 +16,8 @@ unfolding big_endian_from
 be-snoc n [] x = refl
 be-snoc n (y ∷ ys) x = be-snoc (n * 256 + y) ys x
 
-pub be-more : (s : List ℕ) (a i : ℕ) → a + i < length s →
-    big_endian (take (i + 1) (drop a s)) ≡ big_endian (take i (drop a s)) * 256 + get_or s (a + i) 0
-be-more s a i h =
-    let l : i < length (drop a s) = simp length-drop (omega arith) in
-    rw (add-one, take-suc (drop a s) i 0, get_or-drop) (be-snoc 0 (take i (drop a s)) (get_or s (a + i) 0))
+pub be-more : (xs : List ℕ) (i : ℕ) → i < length xs → big_endian (take (i + 1) xs) ≡ big_endian (take i xs) * 256 + get_or xs i 0
+be-more xs i h = rw (add-one, take-suc xs i 0) (be-snoc 0 (take i xs) (get_or xs i 0))
 
 pub be-small : (i : ℕ) → i ≤ 4 → 256 ^ i ≤ 256 ^ 4
 be-small i h = pow-le-pow_right (lit< tt) h

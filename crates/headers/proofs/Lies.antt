@@ -1,5 +1,6 @@
 -- What an item's type field is that was read, and that a header that is read lies between its place and the limit, in the order of its
 -- parts; and so does a closing mark.
+use Rattle.std.specs.Prelude.{Result}
 use mathlib.Core.Path.{◌≡◌}
 use mathlib.Core.Bool.{Bool, true, false≢true}
 use mathlib.Core.List.{List, [], ◌∷◌}
@@ -11,9 +12,8 @@ use Rattle.headers.specs.declared.Header.{Header}
 use Rattle.headers.specs.declared.Head.{Head}
 use Rattle.headers.specs.declared.Head.TheVariants.{Item, ClosingMark, Refusal}
 use Rattle.headers.specs.declared.Field.{Field}
-use Rattle.headers.specs.declared.Field.TheVariants.{Read, Wrong}
 use Rattle.headers.specs.Head.{number_bits, constructed, is_in, form_allowed, above_thirty, code_of, misfits, octet_at, definite_at, indefinite_at, long_at}
-use Rattle.headers.specs.Head.{by_first, length_at, field_at, after_field, closing_at, item_at, head_at}
+use Rattle.headers.specs.Head.{by_first, length_at, after_field, closing_at, item_at, head_at}
 use Rattle.laws.proofs.Tests.{cond-holds}
 
 -- a type field that was read at `at`, from this octet on: its code, and the place past it
@@ -29,7 +29,7 @@ pub item-holds : (P : Head → Type 0) (s : List ℕ) (octet at limit room : ℕ
     → (0 < room → (code past : ℕ) → FieldRead s octet at limit code past → P (length_at s code at past limit)) → P (item_at s octet at limit room)
 unfolding item_at
 item-holds P s octet at limit room refused read =
-    let Q : Field → Type 0 = λ f. P (after_field s at limit f) in
+    let Q : Result Field ℕ → Type 0 = λ f. P (after_field s at limit f) in
     let four = refused 4 (omega arith) (omega arith) in
     let five = refused 5 (omega arith) (omega arith) in
     let seven = refused 7 (omega arith) (omega arith) in
@@ -70,28 +70,6 @@ pub field_past : {s : List ℕ} {octet at limit code past : ℕ} → FieldRead s
 field_past (in_one n f) = omega arith
 field_past (in_two n f l a b) = omega arith
 field_past (in_three n f l a b c) = omega arith
-
--- a type field that is read ends within three octets
-abbrev pub FieldEnds : (at : ℕ) → Field → Type 0
-FieldEnds at (Read code past) = past ≤ at + 3
-FieldEnds at (Wrong number) = Unit {0}
-
-pub field-ends : (s : List ℕ) (octet at limit : ℕ) → FieldEnds at (field_at s octet at limit)
-field-ends s octet at limit =
-    let P = FieldEnds at in
-    let second = octet_at s (at + 1) in
-    cond-holds P (eqb (number_bits octet) 31)
-    (λ _. cond-holds P (ltb (at + 1) limit)
-    (λ _. cond-holds P (ltb second 31) (λ _. tt)
-    (λ _. cond-holds P (ltb second 0x80) (λ _. cond-holds P (is_in octet above_thirty) (λ _. omega arith) (λ _. tt))
-    (λ _. cond-holds P (eqb second 0x80) (λ _. tt)
-    (λ _. cond-holds P (ltb second 0x100)
-    (λ _. cond-holds P (ltb (at + 2) limit)
-    (λ _. cond-holds P (ltb (octet_at s (at + 2)) 0x80) (λ _. cond-holds P (is_in octet above_thirty) (λ _. omega arith) (λ _. tt)) (λ _. tt))
-    (λ _. tt))
-    (λ _. tt)))))
-    (λ _. tt))
-    (λ _. cond-holds P (form_allowed octet) (λ _. omega arith) (λ _. tt))
 
 -- a header lies between `at` and the limit, there is room for its item, and only a constructed item is indefinite
 pub record Lies (at limit room : ℕ) (h : Header) : Type 0 where

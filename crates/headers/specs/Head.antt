@@ -2,11 +2,10 @@
 -- which are tested in their order; X.209, 6.2 and 6.3. First the octet that begins an item, then what length octets say, then the header.
 -- `at` is the position, `limit` the end of the nearest enclosing definite item or of the stream, `marked` says whether the innermost open
 -- item is indefinite, and `room` is how many levels are left.
-use Rattle.std.specs.Prelude.{ℕ, ◌/◌, ◌%◌, ◌+◌, ◌*◌, ◌-◌, Bool, cond, false, true, ◌||◌, not, List, [], ◌∷◌, drop, get_or, take, eqb, ltb, leb}
+use Rattle.std.specs.Prelude.{ℕ, ◌/◌, ◌%◌, ◌+◌, ◌*◌, ◌-◌, Bool, cond, false, true, ◌||◌, not, List, [], ◌∷◌, drop, get_or, take, eqb, ltb, leb, Result, Ok, Err}
 use Rattle.headers.specs.declared.Head.{Head}
 use Rattle.headers.specs.declared.Head.TheVariants.{Item, ClosingMark, Refusal}
 use Rattle.headers.specs.declared.Field.{Field}
-use Rattle.headers.specs.declared.Field.TheVariants.{Read, Wrong}
 
 -- "class in bits 8 and 7": universal is 00
 abbrev pub universal : ℕ → Bool
@@ -123,40 +122,44 @@ by_first s code at from first limit =
 unfoldable pub length_at : List ℕ → (code at from limit : ℕ) → Head
 length_at s code at from limit = cond (ltb from limit) (by_first s code at from (octet_at s from) limit) (Refusal 7 at)
 
+-- What is read of a type field: what an item holds of it and the place past it, or the number of a refusal.
+abbrev pub read_field : (code past : ℕ) → Result Field ℕ
+read_field code past = Ok (record { code = code; past = past })
+
 -- A type field whose number was read: 5 "for a universal number above 30, read whole".
-abbrev pub numbered_field : (first code past : ℕ) → Field
-numbered_field first code past = cond (is_in first above_thirty) (Read code past) (Wrong 5)
+abbrev pub numbered_field : (first code past : ℕ) → Result Field ℕ
+numbered_field first code past = cond (is_in first above_thirty) (read_field code past) (Err 5)
 
 -- The second octet after the first ends the number: 4 "over 16,383" if it has bit 8 set.
-abbrev pub by_third : (first second third at : ℕ) → Field
+abbrev pub by_third : (first second third at : ℕ) → Result Field ℕ
 by_third first second third at =
-    cond (ltb third 0x80) (numbered_field first (code_of (first ∷ second ∷ third ∷ [])) (at + 3)) (Wrong 4)
+    cond (ltb third 0x80) (numbered_field first (code_of (first ∷ second ∷ third ∷ [])) (at + 3)) (Err 4)
 
 -- The octet after the first decides: 1F to 7F is the number; 81 to FF say that one octet more follows; 4 "a first following octet of 80,
 -- or a number under 31". 7 if the one more passes the limit.
-abbrev pub by_second : List ℕ → (first second at limit : ℕ) → Field
+abbrev pub by_second : List ℕ → (first second at limit : ℕ) → Result Field ℕ
 by_second s first second at limit =
-    cond (ltb second 31) (Wrong 4)
+    cond (ltb second 31) (Err 4)
     (cond (ltb second 0x80) (numbered_field first (code_of (first ∷ second ∷ [])) (at + 2))
-    (cond (eqb second 0x80) (Wrong 4)
-    (cond (ltb second 0x100) (cond (ltb (at + 2) limit) (by_third first second (octet_at s (at + 2)) at) (Wrong 7))
-    (Wrong 4))))
+    (cond (eqb second 0x80) (Err 4)
+    (cond (ltb second 0x100) (cond (ltb (at + 2) limit) (by_third first second (octet_at s (at + 2)) at) (Err 7))
+    (Err 4))))
 
 -- A type field with number bits 11111: 7 if the octet after the first passes the limit.
-abbrev pub long_field : List ℕ → (first at limit : ℕ) → Field
-long_field s first at limit = cond (ltb (at + 1) limit) (by_second s first (octet_at s (at + 1)) at limit) (Wrong 7)
+abbrev pub long_field : List ℕ → (first at limit : ℕ) → Result Field ℕ
+long_field s first at limit = cond (ltb (at + 1) limit) (by_second s first (octet_at s (at + 1)) at limit) (Err 7)
 
 -- The type field at `at`, which begins with this octet: 5 "universal form not in the table".
-abbrev pub field_at : List ℕ → (octet at limit : ℕ) → Field
+abbrev pub field_at : List ℕ → (octet at limit : ℕ) → Result Field ℕ
 field_at s octet at limit =
     cond (eqb (number_bits octet) 31) (long_field s octet at limit)
-    (cond (form_allowed octet) (Read octet (at + 1))
-    (Wrong 5))
+    (cond (form_allowed octet) (read_field octet (at + 1))
+    (Err 5))
 
 -- what follows a type field: the length octets
-abbrev pub after_field : List ℕ → (at limit : ℕ) → Field → Head
-after_field s at limit (Read code past) = length_at s code at past limit
-after_field s at limit (Wrong number) = Refusal number at
+abbrev pub after_field : List ℕ → (at limit : ℕ) → Result Field ℕ → Head
+after_field s at limit (Ok field) = length_at s field.code at field.past limit
+after_field s at limit (Err number) = Refusal number at
 
 -- An item: 3 "item at level 17", then its type field and its length octets.
 unfoldable pub item_at : List ℕ → (octet at limit room : ℕ) → Head

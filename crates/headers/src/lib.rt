@@ -21,7 +21,7 @@ pub struct Header {
     pub marked: bool,
 }
 
-// What reading at a position yields.
+// What reading at a position yields: one of three, so this is neither an Option nor a Result.
 #[derive(Clone, Copy)]
 pub enum Head {
     Item(Header),
@@ -29,11 +29,18 @@ pub enum Head {
     Refusal { number: usize, place: usize },
 }
 
-// The type field at a place: what an item holds of it, and the place past it; or the number of a refusal.
+// A refusal, by its number, and the place that is refused.
 #[derive(Clone, Copy)]
-pub enum Field {
-    Read { code: usize, past: usize },
-    Wrong { number: usize },
+pub struct Refusal {
+    pub number: usize,
+    pub place: usize,
+}
+
+// The type field at a place: what an item holds of it, and the place past it.
+#[derive(Clone, Copy)]
+pub struct Field {
+    pub code: usize,
+    pub past: usize,
 }
 
 // How many octets a type field has.
@@ -43,12 +50,6 @@ pub fn field_size(code: usize) -> usize
     types::size_of(code)
 }
 
-fn wide(x: u8) -> usize
-    ensures { result ≡ x }
-{
-    x as usize
-}
-
 // The number that the k octets from `from` are, most significant first. They are gathered with shifts and sums, as not every machine
 // that runs this multiplies.
 pub fn big_endian(s: &[u8], from: usize, k: usize) -> usize
@@ -56,10 +57,8 @@ pub fn big_endian(s: &[u8], from: usize, k: usize) -> usize
     ensures { (result ≡ big_endian (take k (drop from s.now))) × (result < 256 ^ k) }
 {
     let mut n: usize = 0;
-    let mut i: usize = 0;
-    while i < k {
-        n = (n << 8) + wide(s[from + i]);
-        i += 1;
+    for &octet in &s[from..from + k] {
+        n = (n << 8) + octet as usize;
     }
     n
 }
@@ -146,9 +145,9 @@ fn length_at(s: &[u8], code: usize, at: usize, from: usize, limit: usize) -> Hea
     }
     let first = s[from];
     match first {
-        0x00..=0x7F => definite_at(code, at, from + 1, wide(first), limit),
+        0x00..=0x7F => definite_at(code, at, from + 1, first as usize, limit),
         0x80 => indefinite_at(code, at, from, limit),
-        0x81..=0x84 => long_at(s, code, at, from, wide(first - 0x80), limit),
+        0x81..=0x84 => long_at(s, code, at, from, (first - 0x80) as usize, limit),
         0x85..=0xFF => Head::Refusal {
             number: 6,
             place: at,
@@ -200,8 +199,8 @@ pub fn read_head(s: &[u8], at: usize, limit: usize, marked: bool, room: usize) -
         };
     }
     match types::field_at(s, octet, at, limit) {
-        Field::Read { code, past } => length_at(s, code, at, past, limit),
-        Field::Wrong { number } => Head::Refusal { number, place: at },
+        Ok(field) => length_at(s, field.code, at, field.past, limit),
+        Err(number) => Head::Refusal { number, place: at },
     }
 }
 
@@ -214,7 +213,7 @@ fn is_usual(octet: u8, len: u8, left: usize, room: usize) -> bool
     if room == 0 {
         return false;
     }
-    if left <= wide(len) {
+    if left <= len as usize {
         return false;
     }
     if 0x7F < len {
@@ -230,7 +229,9 @@ fn is_usual(octet: u8, len: u8, left: usize, room: usize) -> bool
 }
 
 // What stands at `at`, before `limit`, with `room` levels left. A usual item is told at once; `read_head` has the rest. A header has eight
-// octets at most, so a slice that has these may end before the limit: a block of a letter, or a header's octets alone.
+// octets at most, so a slice that has these may end before the limit: a block of a letter, or a header's octets alone. It is part of the walk's
+// loop and of the block engine's: as a function of its own it would give each item's header through memory.
+#[inline(always)]
 pub fn head_at(s: &[u8], at: usize, limit: usize, marked: bool, room: usize) -> Head
     requires { (at < length s.now) × (min limit (at + 8) ≤ length s.now) }
     ensures { result ≡ head_at s.now at limit marked room }
@@ -241,33 +242,10 @@ pub fn head_at(s: &[u8], at: usize, limit: usize, marked: bool, room: usize) -> 
         let len = s[next];
         if is_usual(octet, len, limit - next, room) {
             return Head::Item(Header {
-                code: wide(octet),
-                number: wide(octet % 32),
+                code: octet as usize,
+                number: (octet % 32) as usize,
                 start: next + 1,
-                bound: next + 1 + wide(len),
-                marked: false,
-            });
-        }
-    }
-    read_head(s, at, limit, marked, room)
-}
-
-// `head_at`, for the block engine's loop alone. The compiler makes a function with one caller part of it; with a second one the walk, or the
-// engine, would call it for each item and take its answer from memory, and then each takes twice as long.
-pub fn head_apart(s: &[u8], at: usize, limit: usize, marked: bool, room: usize) -> Head
-    requires { (at < length s.now) × (min limit (at + 8) ≤ length s.now) }
-    ensures { result ≡ head_at s.now at limit marked room }
-{
-    let next = at + 1;
-    if next < limit {
-        let octet = s[at];
-        let len = s[next];
-        if is_usual(octet, len, limit - next, room) {
-            return Head::Item(Header {
-                code: wide(octet),
-                number: wide(octet % 32),
-                start: next + 1,
-                bound: next + 1 + wide(len),
+                bound: next + 1 + (len as usize),
                 marked: false,
             });
         }
@@ -292,17 +270,17 @@ pub fn passed_head(s: &[u8], at: usize, limit: usize, marked: bool, room: usize)
         let start = next + 1;
         if len < 0x80 {
             return Head::Item(Header {
-                code: wide(octet),
-                number: wide(octet % 32),
+                code: octet as usize,
+                number: (octet % 32) as usize,
                 start,
-                bound: start + wide(len),
+                bound: start + (len as usize),
                 marked: false,
             });
         }
         if len == 0x80 {
             return Head::Item(Header {
-                code: wide(octet),
-                number: wide(octet % 32),
+                code: octet as usize,
+                number: (octet % 32) as usize,
                 start,
                 bound: limit,
                 marked: true,

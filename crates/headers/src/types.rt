@@ -1,10 +1,9 @@
 // The type field of an item: one octet, or up to three for a number above 30.
-ghost use Rattle.std.specs.Prelude.{◌≡◌, cond, [], ◌∷◌, ◌+◌, ◌<◌, ◌≤◌, min, ltb, length};
-ghost use Rattle.headers.specs.declared.Field.TheVariants.{Wrong};
+ghost use Rattle.std.specs.Prelude.{◌≡◌, cond, [], ◌∷◌, ◌+◌, ◌<◌, ◌≤◌, min, ltb, length, Err};
 ghost use Rattle.headers.specs.Head.{number_bits, permits, form_allowed, code_of, type_field, type_number, numbered_field, by_third, long_field, field_at};
 ghost use Rattle.headers.specs.Head.{octet_at};
 
-use super::{Field, wide};
+use super::Field;
 
 // The forms that each universal number may have: 0 never, 1 primitive, 2 constructed, 3 either.
 const FORMS: [u8; 31] = [
@@ -58,7 +57,7 @@ fn form_allowed(octet: u8) -> bool
     ensures { result ≡ form_allowed octet }
 {
     if octet < 64 {
-        return permitted(wide(octet % 32), octet / 32 % 2 == 1);
+        return permitted((octet % 32) as usize, octet / 32 % 2 == 1);
     }
     true
 }
@@ -94,55 +93,55 @@ pub fn size_of(code: usize) -> usize
 pub fn code_of(first: u8, second: u8, third: u8) -> usize
     ensures { result ≡ code_of (first ∷ second ∷ third ∷ []) }
 {
-    wide(first) + (wide(second) << 8) + (wide(third) << 16)
+    (first as usize) + ((second as usize) << 8) + ((third as usize) << 16)
 }
 
 // A type field above number 30, of which all octets were read.
-fn numbered_field(first: u8, code: usize, past: usize) -> Field
+fn numbered_field(first: u8, code: usize, past: usize) -> Result<Field, usize>
     ensures { result ≡ numbered_field first code past }
 {
     match first {
-        0x5F | 0x7F | 0x9F | 0xBF | 0xDF | 0xFF => Field::Read { code, past },
-        _ => Field::Wrong { number: 5 },
+        0x5F | 0x7F | 0x9F | 0xBF | 0xDF | 0xFF => Ok(Field { code, past }),
+        _ => Err(5),
     }
 }
 
 // A type field whose second octet says that a third follows.
-fn third_field(s: &[u8], first: u8, second: u8, at: usize, limit: usize) -> Field
+fn third_field(s: &[u8], first: u8, second: u8, at: usize, limit: usize) -> Result<Field, usize>
     requires { (at + 1 < limit) × (min limit (at + 3) ≤ length s.now) }
-    ensures { result ≡ cond (ltb (at + 2) limit) (by_third first second (octet_at s.now (at + 2)) at) (Wrong 7) }
+    ensures { result ≡ cond (ltb (at + 2) limit) (by_third first second (octet_at s.now (at + 2)) at) (Err 7) }
 {
     let last = at + 2;
     if limit <= last {
-        return Field::Wrong { number: 7 };
+        return Err(7);
     }
     let third = s[last];
     if third < 0x80 {
         return numbered_field(first, code_of(first, second, third), at + 3);
     }
-    Field::Wrong { number: 4 }
+    Err(4)
 }
 
 // A type field with number bits 11111.
-fn long_field(s: &[u8], first: u8, at: usize, limit: usize) -> Field
+fn long_field(s: &[u8], first: u8, at: usize, limit: usize) -> Result<Field, usize>
     requires { (at < length s.now) × (min limit (at + 3) ≤ length s.now) }
     ensures { result ≡ long_field s.now first at limit }
 {
     let next = at + 1;
     if limit <= next {
-        return Field::Wrong { number: 7 };
+        return Err(7);
     }
     let second = s[next];
     match second {
-        0x00..=0x1E => Field::Wrong { number: 4 },
+        0x00..=0x1E => Err(4),
         0x1F..=0x7F => numbered_field(first, code_of(first, second, 0), at + 2),
-        0x80 => Field::Wrong { number: 4 },
+        0x80 => Err(4),
         0x81..=0xFF => third_field(s, first, second, at, limit),
     }
 }
 
 // The type field at `at`, which begins with this octet.
-pub fn field_at(s: &[u8], octet: u8, at: usize, limit: usize) -> Field
+pub fn field_at(s: &[u8], octet: u8, at: usize, limit: usize) -> Result<Field, usize>
     requires { (at < length s.now) × (min limit (at + 3) ≤ length s.now) }
     ensures { result ≡ field_at s.now octet at limit }
 {
@@ -150,10 +149,10 @@ pub fn field_at(s: &[u8], octet: u8, at: usize, limit: usize) -> Field
         return long_field(s, octet, at, limit);
     }
     if form_allowed(octet) {
-        return Field::Read {
-            code: wide(octet),
+        return Ok(Field {
+            code: octet as usize,
             past: at + 1,
-        };
+        });
     }
-    Field::Wrong { number: 5 }
+    Err(5)
 }

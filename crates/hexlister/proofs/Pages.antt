@@ -5,21 +5,14 @@ use native.Mathlib.Numerals.{add-one}
 use native.Mathlib.Nat.{add-zero, zero-add}
 use mathlib.Core.Path.{◌≡◌, refl, sym, ap, subst, ◌∙◌}
 use mathlib.Core.List.{List, [], ◌∷◌, ◌++◌, append_assoc, append-nil, flatten}
-use lib.ListN.{length, take, drop, get_or, set, length-append}
-use lib.Seq.{sets, sets-eq, length-sets, length-take-le, take-append_seam}
+use lib.ListN.{length, take, drop, get_or, length-append}
+use lib.Seq.{sets-eq, length-sets, length-take-le, take-append_seam}
 use Rattle.lister_text.specs.Lines.{WritesLine}
-use Rattle.lister_text.proofs.Stores.{sets-join, sets-next}
+use Rattle.lister_text.proofs.Stores.{sets-join}
 use Rattle.reading.specs.declared.Match.{Match}
 use Rattle.reading.specs.declared.Side.{Side}
 use Rattle.hexlister.specs.Output.{match_line, match_lines}
 use Rattle.hexlister.specs.Pages.{line_room, PutsOnPage, row_line, row_lines}
-
--- the next byte of a line
-pub store-next : (page line : List ℕ) (at i : ℕ) → i < length line
-    → sets (set page (at + i) (get_or line i 0)) (at + (i + 1)) (drop (i + 1) line) ≡ sets page (at + i) (drop i line)
-store-next page line at i h =
-    let e : at + (i + 1) ≡ at + i + 1 = omega arith in
-    rw e (sym (sets-next page (at + i) line i h))
 
 -- bytes that are put may be named otherwise
 pub puts-as : {bytes same page after : List ℕ} {at told room : ℕ} → bytes ≡ same → PutsOnPage bytes page at told after room

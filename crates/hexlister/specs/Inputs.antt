@@ -1,18 +1,14 @@
 -- What is made of what was read, and what is printed of it. No contract can say which bytes the system puts into a block: `TakesIn` says that of
 -- each block exactly the bytes that `read` tells of are read on, `Heard` that reading stands where some text leads, and `Prints` that what is then
 -- printed is that text's output. Of a reader whose bytes are known `PrintsKnown` and `Writes` say that it is the output of all of them.
-use Rattle.std.specs.Prelude.{◌≡◌, Bool, true, false, cond, ◌||◌, List, ◌++◌, ℕ, min, length, take, eqb, Result, Ok, Err, IfSome, ⊤}
+use Rattle.std.specs.Prelude.{◌≡◌, Bool, true, false, cond, ◌||◌, List, ◌++◌, ℕ, min, length, take, eqb, Result, Ok, Err, Some, None, IfSome, ⊤}
 use Rattle.std.specs.Io.KnownBytes.{Appends, Keeps}
 use Rattle.std.specs.declared.option.Option.{Option}
 use Rattle.lister_text.specs.Lines.{unreadable}
 use Rattle.lister_hex.specs.declared.State.{State}
 use Rattle.lister_hex.specs.declared.State.TheVariants.{Pairs, Half, Stopped}
-use Rattle.lister_hex.specs.declared.Read.{Read}
-use Rattle.lister_hex.specs.declared.Read.TheVariants.{Stream, Unreadable}
 use Rattle.lister_hex.specs.Lines.{input_limit}
-use Rattle.lister_hex.specs.Blocks.{standing, started, fed, finished}
-use Rattle.hexlister.specs.declared.Input.{Input}
-use Rattle.hexlister.specs.declared.Input.TheVariants.{Ended, Failed}
+use Rattle.lister_hex.specs.Blocks.{Read, standing, started, fed, finished}
 use Rattle.hexlister.specs.declared.Turn.{Turn}
 use Rattle.hexlister.specs.declared.Turn.TheVariants.{More, Over, Broken}
 use Rattle.hexlister.specs.Output.{stream_lines, output}
@@ -57,14 +53,15 @@ pub record Heard (lent : List ℕ) (state : State) (octets : List ℕ) : Type 0 
   pub text : List ℕ
   pub leads : Leads text lent state octets
 
-abbrev pub HeardIn : (lent : List ℕ) → Input → (octets : List ℕ) → Type 0
-HeardIn lent (Ended state) octets = Heard lent state octets
-HeardIn lent Failed octets = Unit {0}
+-- where reading ended, if it did not fail
+abbrev pub HeardIn : (lent : List ℕ) → Option State → (octets : List ℕ) → Type 0
+HeardIn lent (Some state) octets = Heard lent state octets
+HeardIn lent None octets = Unit {0}
 
 -- what is printed where reading ended: of the stream at the array's front, or of the line that cannot be read
 abbrev pub read_lines : Read → (octets : List ℕ) → List ℕ
-read_lines (Stream count) octets = stream_lines (take count octets)
-read_lines (Unreadable line) octets = unreadable line
+read_lines (Ok count) octets = stream_lines (take count octets)
+read_lines (Err line) octets = unreadable line
 
 -- it is the output of the text that leads there
 abbrev pub Prints : Type 0
@@ -83,9 +80,9 @@ PrintsAll =
     output (text ++ more) ≡ output text
 
 -- and where the bytes that a reader has left are known, what is printed is the output of all of them
-abbrev pub PrintsKnown : Option (List ℕ) → Input → (octets : List ℕ) → Type 0
-PrintsKnown known (Ended state) octets = IfSome known (λ text. read_lines (finished state) octets ≡ output text)
-PrintsKnown known Failed octets = ⊤
+abbrev pub PrintsKnown : Option (List ℕ) → Option State → (octets : List ℕ) → Type 0
+PrintsKnown known (Some state) octets = IfSome known (λ text. read_lines (finished state) octets ≡ output text)
+PrintsKnown known None octets = ⊤
 
 -- what a writer then holds more, where its bytes are known as well: that output, and where reading failed nothing
 abbrev pub Writes : (heard : Bool) → (known before after : Option (List ℕ)) → Type 0

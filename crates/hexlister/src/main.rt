@@ -18,19 +18,12 @@ use std::io::{Read, Write};
 // How many bytes a read is asked for.
 const BLOCK: usize = 4096;
 
-// What one answer of `read` leads to: reading goes on, or it is over, or it failed.
+// What one answer of `read` leads to: reading goes on, or it is over, or it failed. Three ways, which an Option in an Option would hide.
 #[derive(Clone, Copy)]
 enum Turn {
     More(State),
     Over(State),
     Broken,
-}
-
-// What reading to the end gave.
-#[derive(Clone, Copy)]
-enum Input {
-    Ended(State),
-    Failed,
 }
 
 // Whether a line could not be read, so that what follows is not looked at.
@@ -80,8 +73,8 @@ fn take_in(
 }
 
 // Reads until the input ends or a line cannot be read. A proved loop has to end, and nothing says that the input does: so it counts its
-// turns down, from a number that no run uses up.
-fn read_input<R: Read>(input: &mut R, octets: &mut [u8; INPUT_LIMIT]) -> Input
+// turns down, from a number that no run uses up. Tells where reading ended, unless it failed.
+fn read_input<R: Read>(input: &mut R, octets: &mut [u8; INPUT_LIMIT]) -> Option<State>
     ensures heard { HeardIn octets.old result octets.new }
     ensures printed { PrintsKnown (R.remaining input.old) result octets.new }
 {
@@ -95,11 +88,11 @@ fn read_input<R: Read>(input: &mut R, octets: &mut [u8; INPUT_LIMIT]) -> Input
             Turn::More(next) => {
                 state = next;
             }
-            Turn::Over(last) => return Input::Ended(last),
-            Turn::Broken => return Input::Failed,
+            Turn::Over(last) => return Some(last),
+            Turn::Broken => return None,
         }
     }
-    Input::Failed
+    None
 }
 
 // Lists what a reader has left: reads it, and writes the whole output at once. False where it cannot be read, and then nothing is written.
@@ -108,13 +101,13 @@ fn list<R: Read, W: Write>(input: &mut R, out: &mut W) -> io::Result<bool>
 {
     let mut octets = [0u8; INPUT_LIMIT];
     match read_input(input, &mut octets) {
-        Input::Ended(state) => {
+        Some(state) => {
             let mut page = [0u8; PAGE_ROOM];
             let n = page::put_output(&mut page, state, &octets);
             out.write_all(&page[..n])?;
             Ok(true)
         }
-        Input::Failed => Ok(false),
+        None => Ok(false),
     }
 }
 

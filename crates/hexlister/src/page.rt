@@ -10,7 +10,7 @@ ghost use Rattle.hexlister.specs.Inputs.{read_lines};
 ghost use Rattle.lister_hex.specs.Blocks.{finished};
 
 use answers::TABLE_WIDTH;
-use lister_hex::{INPUT_LIMIT, Read, State};
+use lister_hex::{INPUT_LIMIT, State};
 use lister_text::LINE_ROOM;
 use odif::{Checked, Edition, Listed};
 use reading::{Match, Side};
@@ -49,12 +49,9 @@ fn append(page: &mut [u8], at: usize, line: &[u8]) -> usize
     requires { (length line.now ≤ line_room) × (at + line_room ≤ length page.old) }
     ensures { PutsOnPage line.now page.old at result page.new line_room }
 {
-    let mut i = 0;
-    while i < line.len() {
-        page[at + i] = line[i];
-        i += 1;
-    }
-    at + i
+    let past = at + line.len();
+    page[at..past].copy_from_slice(line);
+    past
 }
 
 // The line of an element, from its row in the table.
@@ -77,10 +74,8 @@ fn put_elements(page: &mut [u8], at: usize, table: &[u32], count: usize) -> usiz
     ensures { PutsOnPage (row_lines table.now 0 count) page.old at result page.new elements_room }
 {
     let mut here = at;
-    let mut i = 0;
-    while i < count {
+    for i in 0..count {
         here = put_element(page, here, table, i);
-        i += 1;
     }
     here
 }
@@ -115,11 +110,8 @@ fn put_matches(
     ensures { PutsOnPage (match_lines side (take count records)) page.old at result page.new side_room }
 {
     let mut here = at;
-    let mut i = 0;
-    while i < count {
-        let m = records[i];
-        here = put_match(page, here, side, m);
-        i += 1;
+    for i in 0..count {
+        here = put_match(page, here, side, records[i]);
     }
     here
 }
@@ -205,7 +197,7 @@ pub fn put_output(page: &mut [u8; PAGE_ROOM], state: State, octets: &[u8; INPUT_
     ensures { WritesLine (read_lines (finished state) octets.now) page.old result page.new }
 {
     match lister_hex::finish(state) {
-        Read::Stream { length } => put_stream(page, lister_hex::part(octets, length)),
-        Read::Unreadable { line } => put_unreadable(page, line),
+        Ok(length) => put_stream(page, lister_hex::part(octets, length)),
+        Err(line) => put_unreadable(page, line),
     }
 }

@@ -1,6 +1,7 @@
 -- Rule 15 by the index: a row with the same name in the same name space is found exactly when its element clashes, for rows say what
 -- their elements say and no identifier is empty.
-use mathlib.Core.Path.{◌≡◌, refl, ap, sym, ◌∙◌, subst}
+use Rattle.std.specs.Prelude.{Option, Some, None, is_some}
+use mathlib.Core.Path.{◌≡◌, refl, ap, sym, ◌∙◌}
 use mathlib.Core.Bool.{Bool, true, false, ◌&&◌, ◌||◌, false≢true}
 use mathlib.Core.List.{List, [], map}
 use mathlib.Core.Option.{some}
@@ -14,8 +15,6 @@ use Rattle.names.proofs.Same.{same-eq, same_refl}
 use Rattle.contents.specs.declared.Span.{Span}
 use Rattle.contents.specs.Search.{Value, absent, octets}
 use Rattle.portions.specs.Portions.{any, repeats}
-use Rattle.rows.specs.declared.RowFound.{RowFound}
-use Rattle.rows.specs.declared.RowFound.TheVariants.{At, Nothing}
 use Rattle.rows.specs.Rows.{scratch_width, name_space_of}
 use Rattle.rows.specs.Columns.{identifier_column, logical_column, kind_at, first_at, past_at, value_at, Bounded}
 use Rattle.rows.specs.Chains.{Has, FindsRow}
@@ -29,12 +28,10 @@ use Rattle.judging.proofs.Lists.{below_length, at-below, any-true, any_false, an
 use Rattle.judging.proofs.Rows.{RowOf, row-of, kind-at, first-at, past-at}
 
 -- what a look-up answers
-module _ {s scratch : List ℕ} {column n name_space : ℕ} {bytes : List ℕ} {found : RowFound} (finds : FindsRow s scratch column n name_space bytes found) where
-  pub found-taken : (j : ℕ) → found ≡ At j → Taken s scratch column n name_space bytes true
-  found-taken j e = (j, (subst (FindsRow s scratch column n name_space bytes) e finds).0)
-
-  pub nothing-taken : found ≡ Nothing → Taken s scratch column n name_space bytes false
-  nothing-taken e = subst (FindsRow s scratch column n name_space bytes) e finds
+pub taken : (s scratch : List ℕ) (column n name_space : ℕ) (bytes : List ℕ) (found : Option ℕ) → FindsRow s scratch column n name_space bytes found
+    → Taken s scratch column n name_space bytes (is_some found)
+taken s scratch column n name_space bytes (Some j) finds = (j, finds.0)
+taken s scratch column n name_space bytes None finds = finds
 
 -- no row has an empty name
 pub empty-untaken : {s scratch : List ℕ} {column n name_space : ℕ} (pair : Span) → Bounded s scratch column n → pair.first ≡ pair.past

@@ -1,5 +1,5 @@
 -- What the code learns of one element: the rules in three steps, whether an earlier row has its identifier, and its row.
-use Rattle.std.specs.Prelude.{◌≡◌, Bool, true, false, List, [], ◌∷◌, ◌++◌, ℕ, ◌+◌}
+use Rattle.std.specs.Prelude.{◌≡◌, Bool, true, false, List, [], ◌∷◌, ◌++◌, ℕ, ◌+◌, Result, Ok, Err, ⊤}
 use Rattle.headers.specs.Head.{type_field}
 use Rattle.tree.specs.Tree.{Tree, empty}
 use Rattle.runs.specs.Runs.{items_of, tree_in}
@@ -12,15 +12,20 @@ use Rattle.elements.specs.Judge.{Element, element_of, twice, first_of, place_rul
 use Rattle.elements.specs.ShapeRefusal.{shape_refusal}
 use Rattle.elements.specs.ElementRows.{row_of, bytes_in}
 use Rattle.elements.specs.Says.{Says, RowPlaced}
+use Rattle.elements.specs.Sees.{Refuses}
 use Rattle.judging.specs.declared.Hashes.{Hashes}
 use Rattle.judging.specs.declared.PlacedItem.{PlacedItem}
-use Rattle.judging.specs.declared.Judgement.{Judgement}
-use Rattle.judging.specs.declared.Judgement.TheVariants.{Fails, Passes}
+use Rattle.judging.specs.declared.Judged.{Judged}
 use Rattle.judging.specs.Done.{DoneRows}
 
 -- rules 9 to 11, which look at an element's number and code alone; `known` is the octet of its shape
 unfoldable pub early_refusal : (n code known : ℕ) → ℕ
 early_refusal n code known = first_of (place_rules n known (type_field code))
+
+-- what is answered where a number refuses, or 0, which refuses nothing
+abbrev pub Told : (number : ℕ) → Result ⊤ ℕ → Type 0
+Told number (Ok passed) = number ≡ 0
+Told number (Err refused) = Refuses number refused
 
 -- whether one of the first n rows has these bytes at the column and is of the name space
 abbrev pub Taken : (s scratch : List ℕ) (column n name_space : ℕ) (bytes : List ℕ) → Bool → Type 0
@@ -52,14 +57,14 @@ pub record Passing (edition : Edition) (s : List ℕ) (done : List Element) (ite
   pub hashed : hashes ≡ hashes_of s row
 
 -- what rules 9 to 15 make of an item, after the elements that are done
-abbrev pub Judges : Edition → (s : List ℕ) (done : List Element) → PlacedItem → Judgement → Type 0
-Judges edition s done item (Fails number) = (refusal_of edition done (type_field item.code) (tree_in s item.inner) ≡ number) × (number ≡ 0 → ⊥)
-Judges edition s done item (Passes row hashes) = Passing edition s done item row hashes
+abbrev pub Judges : Edition → (s : List ℕ) (done : List Element) → PlacedItem → Result Judged ℕ → Type 0
+Judges edition s done item (Err number) = (refusal_of edition done (type_field item.code) (tree_in s item.inner) ≡ number) × (number ≡ 0 → ⊥)
+Judges edition s done item (Ok judged) = Passing edition s done item judged.row judged.hashes
 
 -- what is said of an item, whichever elements the scratch holds
-abbrev pub JudgesAfter : Edition → (s scratch : List ℕ) (n : ℕ) → PlacedItem → Judgement → Type 0
-JudgesAfter edition s scratch n item judgement =
-    (table : List Row) (done : List Element) → DoneRows s scratch n table done → Judges edition s done item judgement
+abbrev pub JudgesAfter : Edition → (s scratch : List ℕ) (n : ℕ) → PlacedItem → Result Judged ℕ → Type 0
+JudgesAfter edition s scratch n item judged =
+    (table : List Row) (done : List Element) → DoneRows s scratch n table done → Judges edition s done item judged
 
 -- whether rule 15 refuses an element with a row and these portions, whichever elements the scratch holds
 abbrev pub TellsTwice : (s scratch : List ℕ) (n : ℕ) → Row → (portions : List (List ℕ)) → Bool → Type 0

@@ -13,12 +13,11 @@ ghost use Rattle.elements.specs.Judge.{Element};
 ghost use Rattle.elements.specs.ElementRows.{bytes_in};
 ghost use Rattle.elements.specs.Says.{Placed, RowPlaced};
 ghost use Rattle.judging.specs.Done.{DoneRows};
-ghost use Rattle.judging.specs.Judges.{early_refusal, Taken, hashes_of, TellsTwice, MayBeBare, JudgesAfter};
+ghost use Rattle.judging.specs.Judges.{early_refusal, Told, Taken, hashes_of, TellsTwice, MayBeBare, JudgesAfter};
 
 use contents::Span;
 use elements::{Edition, Row, Seen};
 use names::Asked;
-use rows::RowFound;
 use runs::Run;
 
 // An item of the stream that is to be judged: the code of its type field, where it stands, and the run inside it.
@@ -30,11 +29,11 @@ pub struct PlacedItem {
     pub inner: Run,
 }
 
-// What rules 9 to 15 say of an element: a refusal number, or its row.
+// What is kept of an element that no rule refuses: its row, and the hashes of its names.
 #[derive(Clone, Copy)]
-pub enum Judgement {
-    Fails { number: usize },
-    Passes { row: Row, hashes: Hashes },
+pub struct Judged {
+    pub row: Row,
+    pub hashes: Hashes,
 }
 
 // The hashes of a row's identifier and logical identifier: looked up by them, and then inserted.
@@ -48,26 +47,20 @@ pub const MOST_ELEMENTS: usize = 4096;
 
 const PROFILE: usize = 0xA0;
 
-// Rules 9 to 11 for element n: the number of the one that refuses, or 0. `known` is the octet of its shape.
-pub fn early(n: usize, code: usize, known: usize) -> usize
-    ensures { result ≡ early_refusal n code known }
+// Rules 9 to 11 for element n: the number of the one that refuses. `known` is the octet of its shape.
+pub fn early(n: usize, code: usize, known: usize) -> Result<(), usize>
+    ensures { Told (early_refusal n code known) result }
 {
     if MOST_ELEMENTS <= n {
-        return 9;
+        return Err(9);
     }
     if code != known {
-        return 10;
+        return Err(10);
     }
-    if n == 0 {
-        if code != PROFILE {
-            return 11;
-        }
-        return 0;
+    if (n == 0) != (code == PROFILE) {
+        return Err(11);
     }
-    if code == PROFILE {
-        return 11;
-    }
-    0
+    Ok(())
 }
 
 fn hashes_of(s: &[u8], row: Row) -> Hashes
@@ -77,8 +70,8 @@ fn hashes_of(s: &[u8], row: Row) -> Hashes
     let identifier = row.identifier;
     let logical = row.logical;
     Hashes {
-        identifier: names::hash_over(s, identifier.first, identifier.past, 0),
-        logical: names::hash_over(s, logical.first, logical.past, 0),
+        identifier: names::hash_over(&s[identifier.first..identifier.past], 0),
+        logical: names::hash_over(&s[logical.first..logical.past], 0),
     }
 }
 
@@ -104,16 +97,10 @@ fn is_taken(
         return false;
     }
     let asked = Asked {
-        first,
-        past,
-        joined: false,
-        from: 0,
-        to: 0,
+        front: &s[first..past],
+        back: None,
     };
-    match rows::find(s, rows, index, n, column, space, hashed, asked) {
-        RowFound::At(_) => true,
-        RowFound::Nothing => false,
-    }
+    rows::find(s, rows, index, n, column, space, hashed, asked).is_some()
 }
 
 // Rule 15: whether an element has an identifier that one of the n before it has, or a portion twice. The numbers that bound its
@@ -167,23 +154,17 @@ fn has_double(
 fn may_be_bare(code: usize) -> bool
     ensures { result ≡ true → (edition : Edition) → MayBeBare edition code }
 {
-    match code {
-        0xA0 | 0xA2 | 0xA6 => true,
-        _ => false,
-    }
+    matches!(code, 0xA0 | 0xA2 | 0xA6)
 }
 
 // Rules 9 to 15 for element n, in which nothing stands and nothing has to: it has no name, so it shares none.
-fn judge_bare(n: usize, item: PlacedItem) -> Judgement
+fn judge_bare(n: usize, item: PlacedItem) -> Result<Judged, usize>
     requires { ((edition : Edition) → MayBeBare edition item.code) × (item.first ≤ item.past) }
     ensures { (edition : Edition) (s scratch : List ℕ) → items_of s item.inner ≡ no_items → item.past ≤ length s
         → JudgesAfter edition s scratch n item result }
 {
-    let number = early(n, item.code, item.code);
-    if number != 0 {
-        return Judgement::Fails { number };
-    }
-    Judgement::Passes {
+    early(n, item.code, item.code)?;
+    Ok(Judged {
         row: Row {
             kind: item.code % 32,
             object: elements::NO_TYPE,
@@ -200,7 +181,7 @@ fn judge_bare(n: usize, item: PlacedItem) -> Judgement
             identifier: 0,
             logical: 0,
         },
-    }
+    })
 }
 
 // Rules 9 to 15 for element n, whatever stands in it. The bounds lent are for its portions.
@@ -212,7 +193,7 @@ fn judge_any(
     bounds: &mut [u32],
     n: usize,
     item: PlacedItem,
-) -> Judgement
+) -> Result<Judged, usize>
     requires done_rows { (table : List Row) × (done : List Element) × DoneRows s.now rows.now n table done }
     requires both_filed { BothFiled s.now rows.now index.now n }
     requires fine { Fine s.now item.inner × (length s.now ≤ stream_limit) × (item.first ≤ item.past) × (item.past ≤ length s.now)
@@ -220,22 +201,14 @@ fn judge_any(
     ensures { JudgesAfter edition s.now rows.now n item result }
 {
     let shape = elements::shape_of(edition, item.code);
-    let number = early(n, item.code, shape.octet);
-    if number != 0 {
-        return Judgement::Fails { number };
-    }
-    let seen = elements::see(s, shape, item.inner, item.first, item.past, bounds);
-    if seen.refusal != 0 {
-        return Judgement::Fails {
-            number: seen.refusal,
-        };
-    }
+    early(n, item.code, shape.octet)?;
+    let seen = elements::see(s, shape, item.inner, item.first, item.past, bounds)?;
     let row = seen.row;
     let hashes = hashes_of(s, row);
     if has_double(s, rows, index, bounds, n, seen, hashes) {
-        return Judgement::Fails { number: 15 };
+        return Err(15);
     }
-    Judgement::Passes { row, hashes }
+    Ok(Judged { row, hashes })
 }
 
 // Rules 9 to 15 for element n. One in which nothing stands is told at once; `judge_any` has the rest.
@@ -247,17 +220,15 @@ pub fn judge_element(
     bounds: &mut [u32],
     n: usize,
     item: PlacedItem,
-) -> Judgement
+) -> Result<Judged, usize>
     requires done_rows { (table : List Row) × (done : List Element) × DoneRows s.now rows.now n table done }
     requires both_filed { BothFiled s.now rows.now index.now n }
     requires fine { Fine s.now item.inner × (length s.now ≤ stream_limit) × (item.first ≤ item.past) × (item.past ≤ length s.now)
         × (2 * most_portions ≤ length bounds.old) }
     ensures { JudgesAfter edition s.now rows.now n item result }
 {
-    if runs::is_over(s, item.inner) {
-        if may_be_bare(item.code) {
-            return judge_bare(n, item);
-        }
+    if runs::is_over(s, item.inner) && may_be_bare(item.code) {
+        return judge_bare(n, item);
     }
     judge_any(edition, s, rows, index, bounds, n, item)
 }

@@ -6,7 +6,7 @@ use Prim.Native.Nat.{ℕ, ◌<◌, ◌≤◌}
 use lib.Dec.{ltb}
 use borrow.Author.Tests.{lt-ltb, le-ltb}
 use borrow.Table.Steps.{cases}
-use Rattle.octets.specs.declared.Outcome.TheVariants.{Ended, Refused}
+use Rattle.octets.specs.Told.{ended, refused}
 use Rattle.octets.specs.Walk.{walk_of}
 use Rattle.elements.specs.declared.Edition.{Edition}
 use Rattle.letters.specs.Lent.{rows_needed}
@@ -16,10 +16,10 @@ use Rattle.answers.proofs.Working.{ruled-refused}
 use Rattle.lent.specs.Lent.{rows_for, index_for, too_few, ruled_lent}
 
 module _ (edition : Edition) (s : List ℕ) (rows index : ℕ) where
-  pub by-walk : (number place headers : ℕ) → walk_of s ≡ Refused number place headers → record { number = number; place = place } ≡ ruled_lent edition s rows index
+  pub by-walk : (number place headers : ℕ) → walk_of s ≡ refused number place headers → record { number = number; place = place } ≡ ruled_lent edition s rows index
   by-walk number place headers w = sym (rw w (ruled-refused edition s (refused-walk edition s number place headers w)))
 
-  module _ {at headers : ℕ} (w : walk_of s ≡ Ended at headers) where
+  module _ {at headers : ℕ} (w : walk_of s ≡ ended at headers) where
     lacking : too_few s rows index ≡ true → record { number = 32; place = 0 } ≡ ruled_lent edition s rows index
     lacking e = rw (w, e)
 

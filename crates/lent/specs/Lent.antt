@@ -2,9 +2,8 @@
 -- names, as numbers of 16. It is the short normal form (answers, specs/Short), but for 32: the lent numbers are too few for the letter's elements.
 -- 32 comes after 8 and before 9: elements are counted once the walk has passed the stream, and rules 9 to 15 need the scratch.
 -- What the scratch holds at exit is left open.
-use Rattle.std.specs.Prelude.{◌≡◌, Bool, false, cond, ◌||◌, List, ℕ, ◌+◌, ◌*◌, leb, ltb, length}
-use Rattle.octets.specs.declared.Outcome.{Outcome}
-use Rattle.octets.specs.declared.Outcome.TheVariants.{Ended, Refused}
+use Rattle.std.specs.Prelude.{◌≡◌, Bool, false, cond, ◌||◌, List, ℕ, ◌+◌, ◌*◌, leb, ltb, length, Ok, Err}
+use Rattle.octets.specs.Told.{Outcome}
 use Rattle.octets.specs.Walk.{walk_of}
 use Rattle.normal.specs.Short.{short_limit}
 use Rattle.rows.specs.Rows.{scratch_width}
@@ -39,8 +38,8 @@ too_few s rows index = ltb rows (rows_for (rows_needed s)) || ltb index (index_f
 
 -- of a stream that the walk refuses no element is counted
 abbrev pub once_walked : Outcome → (few : Bool) → Bool
-once_walked (Ended at headers) few = few
-once_walked (Refused number place headers) few = false
+once_walked (Ok e) few = few
+once_walked (Err r) few = false
 
 -- 32 after a walk with no refusal
 abbrev pub lacks : (s : List ℕ) (rows index : ℕ) → Bool

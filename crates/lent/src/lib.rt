@@ -4,6 +4,7 @@
 
 ghost use Rattle.std.specs.Prelude.{◌≡◌, ℕ, ◌≤◌, length};
 ghost use Rattle.octets.specs.Walk.{walk_of};
+ghost use Rattle.octets.specs.Told.{ended};
 ghost use Rattle.runs.specs.Runs.{whole_stream, Fine};
 ghost use Rattle.rows.specs.Chains.{Empty};
 ghost use Rattle.letters.specs.Lent.{rows_needed};
@@ -12,9 +13,6 @@ ghost use Rattle.lent.specs.Lent.{rows_for, size_for, index_for, ruled_lent};
 
 use answers::Reason;
 use elements::Edition;
-use letters::Verdict;
-use octets::Outcome;
-use runs::Met;
 
 // The most elements that are counted.
 const MOST_ELEMENTS: usize = judging::MOST_ELEMENTS;
@@ -28,27 +26,18 @@ fn rows_needed(s: &[u8]) -> usize
 {
     let mut cur = runs::whole_stream(s);
     let mut n: usize = 0;
-    loop {
-        match runs::meet(s, cur) {
-            Met::End => return n,
-            Met::Item {
-                code: _,
-                first: _,
-                past: _,
-                inner: _,
-                rest,
-            } => {
-                if n == MOST_ELEMENTS {
-                    return n;
-                }
-                n += 1;
-                cur = rest;
-            }
+    while let Some(item) = runs::meet(s, cur) {
+        if n == MOST_ELEMENTS {
+            return n;
         }
+        n += 1;
+        cur = item.rest;
     }
+    n
 }
 
 // How many elements an index is made for that is to hold so many: buckets are chosen by the low bits of a hash, so it is a power of two.
+// The sizes are listed as in `size_for` of specs/Lent: what `next_power_of_two` ensures leaves open which of them it is, so its proof is longer.
 fn size_for(n: usize) -> usize
     ensures { result ≡ size_for n }
 {
@@ -78,47 +67,40 @@ fn clear(index: &mut [u16])
     ensures empty { Empty index.new }
     ensures index_len_unchanged { length index.new ≡ length index.old }
 {
-    let mut i: usize = 0;
-    while i < index.len() {
-        index[i] = 0;
-        i += 1;
-    }
+    index.fill(0);
 }
 
 // Judges the elements of a stream that the walk has passed, in scratch of which the index is as long as it is to be.
 fn judge(edition: Edition, stream: &[u8], rows: &mut [u32], index: &mut [u16]) -> Reason
-    requires by_index { (at : ℕ) × (headers : ℕ) × (walk_of stream.now ≡ Outcome.Ended at headers) }
+    requires by_index { (at : ℕ) × (headers : ℕ) × (walk_of stream.now ≡ ended at headers) }
     requires stream_in_bounds { (rows_for (rows_needed stream.now) ≤ length rows.old) × (length index.old ≡ index_for (rows_needed stream.now)) }
     ensures { result ≡ ruled edition stream.now }
 {
     clear(index);
     let mut bounds = [0u32; 128];
     match letters::judge_stream(edition, stream, rows, index, &mut bounds) {
-        Verdict::Accepted { count: _ } => Reason {
+        Ok(_) => Reason {
             number: 0,
             place: 0,
         },
-        Verdict::Refused { number, place } => Reason {
-            number: number as u32,
-            place: place as u32,
+        Err(refusal) => Reason {
+            number: refusal.number as u32,
+            place: refusal.place as u32,
         },
     }
 }
 
 // What refuses a stream by rules 1 to 15, in scratch that the caller lends; 32, after rule 8, if that is too small for the elements.
+// A Reason, and no Result: its numbers are those that C is told and `ruled_lent` names, 0 among them.
 pub fn refused_by(edition: Edition, stream: &[u8], rows: &mut [u32], index: &mut [u16]) -> Reason
     ensures { result ≡ ruled_lent edition stream.now (length rows.old) (length index.old) }
 {
     match octets::walk(stream) {
-        Outcome::Refused {
-            number,
-            place,
-            count: _,
-        } => Reason {
-            number: number as u32,
-            place: place as u32,
+        Err(refused) => Reason {
+            number: refused.number as u32,
+            place: refused.place as u32,
         },
-        Outcome::Ended { at: _, count: _ } => {
+        Ok(_) => {
             let needed = rows_needed(stream);
             let size = 6 * size_for(needed) + 2;
             if rows.len() < needed * rows::SCRATCH_WIDTH {

@@ -23,7 +23,7 @@ use Rattle.elements.specs.Judge.{Element, most_elements, judge_from, judge}
 use Rattle.elements.specs.ElementRows.{rows_of, numbers, place_of}
 use Rattle.judging.specs.declared.Hashes.{Hashes}
 use Rattle.judging.specs.declared.PlacedItem.{PlacedItem}
-use Rattle.judging.specs.declared.Judgement.TheVariants.{Fails}
+use Rattle.std.specs.Prelude.{Err}
 use Rattle.letters.specs.Letter.{items_of_stream, rows_in}
 use Rattle.judging.specs.Done.{none, DoneRows}
 use Rattle.letters.specs.Scratch.{LetterRows, Stopped, GivesVerdict}
@@ -114,7 +114,7 @@ module _ {edition : Edition} {s scratch index : List ℕ} {n : ℕ} {cur : Run} 
     met-tree = ap (λ (i : Items). judge_from edition j.done (plain s i)) m.tree
 
     -- and refused: element n stands there
-    pub refused-at : (number : ℕ) → Judges edition s j.done here (Fails number) → Stopped edition s number cur.at
+    pub refused-at : (number : ℕ) → Judges edition s j.done here (Err number) → Stopped edition s number cur.at
     unfolding place_of
     refused-at number w =
         let this : n + 0 ≡ length j.done = omega (arith, j.holds.counted) in

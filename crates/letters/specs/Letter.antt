@@ -1,8 +1,7 @@
 -- The whole stream: refusals 1 to 15 in their order, the table of an accepted one, and what is promised of it. Document 01, "Numbers given
 -- back": "Refusal 1 comes first. Then the whole stream is walked for 2 to 8 .. Then elements in order, 9 to 15 in order within each."
-use Rattle.std.specs.Prelude.{ℕ, ◌≤◌, false, List, [], ◌∷◌, length, ◌≡◌}
-use Rattle.octets.specs.declared.Outcome.{Outcome}
-use Rattle.octets.specs.declared.Outcome.TheVariants.{Ended, Refused}
+use Rattle.std.specs.Prelude.{ℕ, ◌≤◌, false, List, [], ◌∷◌, length, ◌≡◌, Ok, Err}
+use Rattle.octets.specs.Told.{Outcome}
 use Rattle.octets.specs.Walk.{Items, run, deepest, walk_of}
 use Rattle.tree.specs.Tree.{tree_of}
 use Rattle.contents.specs.declared.Span.{Span}
@@ -27,8 +26,8 @@ after_walk items headers (accepted elements) = letter headers elements
 after_walk items headers (refused number element) = refusal number (place_of element items) headers
 
 abbrev pub by_walk : Edition → List ℕ → Outcome → Letter
-by_walk edition s (Ended at headers) = after_walk (items_of_stream s) headers (judge edition (tree_of s))
-by_walk edition s (Refused number place headers) = refusal number place headers
+by_walk edition s (Ok e) = after_walk (items_of_stream s) e.count (judge edition (tree_of s))
+by_walk edition s (Err r) = refusal r.number r.place r.count
 
 -- what a stream is by rules 1 to 15
 unfoldable pub letter_in : Edition → List ℕ → Letter

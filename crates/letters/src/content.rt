@@ -7,13 +7,7 @@ ghost use Rattle.letters.specs.Content.{ElementAt, held_by, HoldsElement};
 use super::Held;
 use elements::{Edition, Holder};
 use judging::PlacedItem;
-use runs::{Met, Run};
-
-fn wide(x: u32) -> usize
-    ensures { result ≡ x }
-{
-    x as usize
-}
+use runs::Run;
 
 fn held_by(holder: Holder) -> Held
     ensures { result ≡ held_by holder }
@@ -36,7 +30,7 @@ pub fn element_at(edition: Edition, s: &[u8], rows: &[u32], j: usize) -> PlacedI
     requires by_index { (count : ℕ) × LetterRows edition s.now rows.now count × (j < count) }
     ensures { ElementAt edition s.now j result }
 {
-    let at = wide(rows[j * rows::SCRATCH_WIDTH + rows::WHOLE]);
+    let at = rows[j * rows::SCRATCH_WIDTH + rows::WHOLE] as usize;
     let whole = runs::whole_stream(s);
     let from = Run {
         at,
@@ -45,23 +39,17 @@ pub fn element_at(edition: Edition, s: &[u8], rows: &[u32], j: usize) -> PlacedI
         room: whole.room,
     };
     match runs::meet(s, from) {
-        Met::End => PlacedItem {
+        None => PlacedItem {
             code: 0,
             first: at,
             past: at,
             inner: from,
         },
-        Met::Item {
-            code,
-            first: _,
-            past: _,
-            inner,
-            rest,
-        } => PlacedItem {
-            code,
+        Some(item) => PlacedItem {
+            code: item.code,
             first: at,
-            past: rest.at,
-            inner,
+            past: item.rest.at,
+            inner: item.inner,
         },
     }
 }

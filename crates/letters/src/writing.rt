@@ -20,35 +20,27 @@ pub fn copy_numbers(from: &[u32], count: usize, to: &mut [u32], at: usize)
     requires { (count ≤ length from.now) × (at + count ≤ length to.old) }
     ensures { to.new ≡ paste to.old at from.now count }
 {
-    let mut i: usize = 0;
-    while i < count {
-        to[at + i] = from[i];
-        i += 1;
-    }
+    to[at..at + count].copy_from_slice(&from[..count]);
 }
 
+// The numbers of a row, in the order that the lent table has, which is that of the C interface: no derive or `From` says it plainer.
 fn cells_of(row: Row) -> [u32; 12]
     requires { Narrow row }
     ensures { result ≡ cells row }
 {
-    let whole = row.whole;
-    let identifier = row.identifier;
-    let logical = row.logical;
-    let portions = row.portions;
-    let content = row.content;
     [
         row.kind as u32,
         row.object as u32,
-        whole.first as u32,
-        whole.past as u32,
-        identifier.first as u32,
-        identifier.past as u32,
-        logical.first as u32,
-        logical.past as u32,
-        portions.first as u32,
-        portions.past as u32,
-        content.first as u32,
-        content.past as u32,
+        row.whole.first as u32,
+        row.whole.past as u32,
+        row.identifier.first as u32,
+        row.identifier.past as u32,
+        row.logical.first as u32,
+        row.logical.past as u32,
+        row.portions.first as u32,
+        row.portions.past as u32,
+        row.content.first as u32,
+        row.content.past as u32,
     ]
 }
 

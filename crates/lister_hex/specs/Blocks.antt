@@ -1,10 +1,8 @@
 -- Lines read in blocks: where it stands after the bytes so far, and the lent array then.
 -- `Promise` says that this is what the whole text reads as, wherever it is cut.
-use Rattle.std.specs.Prelude.{ℕ, ◌+◌, min, cond, ◌&&◌, List, [], ◌∷◌, length, set, ltb, eqb}
+use Rattle.std.specs.Prelude.{ℕ, ◌+◌, min, cond, ◌&&◌, List, [], ◌∷◌, length, set, ltb, eqb, Result, Ok, Err}
 use Rattle.lister_hex.specs.declared.State.{State}
 use Rattle.lister_hex.specs.declared.State.TheVariants.{Pairs, Half, Stopped}
-use Rattle.lister_hex.specs.declared.Read.{Read}
-use Rattle.lister_hex.specs.declared.Read.TheVariants.{Stream, Unreadable}
 use Rattle.lister_text.specs.Ascii.{newline}
 use Rattle.lister_hex.specs.Lines.{input_limit, is_hex_digit, octet, TextMeaning, stream, unreadable}
 
@@ -47,13 +45,17 @@ unfoldable pub fed : Standing → List ℕ → Standing
 fed t [] = t
 fed t (b ∷ bs) = fed (on_byte t.state t.out b) bs
 
+-- what a text reads as: the length of its stream, which stands at the front of the lent array, or the first line that cannot be read
+abbrev pub Read : Type 0
+Read = Result ℕ ℕ
+
 -- the answer where the text ends: half a pair makes its line unreadable
 abbrev pub finished : State → Read
-finished (Pairs n line) = Stream n
-finished (Half n line a) = Unreadable line
-finished (Stopped line) = Unreadable line
+finished (Pairs n line) = Ok n
+finished (Half n line a) = Err line
+finished (Stopped line) = Err line
 
 -- an outcome as it is told: a stream by its length, a line by its number
 abbrev pub read_as : TextMeaning → Read
-read_as (stream octets) = Stream (length octets)
-read_as (unreadable line) = Unreadable (min line last_line)
+read_as (stream octets) = Ok (length octets)
+read_as (unreadable line) = Err (min line last_line)

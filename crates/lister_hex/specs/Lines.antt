@@ -1,6 +1,7 @@
 -- What a text of hex lines means (document 01, "Table, list, part, normal form" and "Checked examples"): the stream, or the line that cannot be read.
 -- Not said here: that the text comes in blocks (`Blocks`).
-use Rattle.std.specs.Prelude.{ℕ, ◌+◌, ◌-◌, ◌*◌, Bool, cond, ◌&&◌, List, [], ◌∷◌, ◌++◌, length, ltb, leb, eqb}
+use Rattle.std.specs.Prelude.{ℕ, ◌+◌, ◌-◌, ◌*◌, Bool, cond, ◌&&◌, List, [], ◌∷◌, ◌++◌, length, ltb, leb, eqb, Some, None}
+use Rattle.std.specs.Prelude
 use Rattle.std.proofs.Math.Option.{Option, none, some, map}
 use Rattle.lister_text.specs.Ascii.{newline}
 
@@ -18,6 +19,10 @@ digit_value b =
 -- whether a byte is such a digit
 abbrev pub is_hex_digit : ℕ → Bool
 is_hex_digit b = ltb (digit_value b) 16
+
+-- the value of a digit; any other byte has none
+abbrev pub value_of : ℕ → Prelude.Option ℕ
+value_of b = cond (is_hex_digit b) (Some (digit_value b)) None
 
 -- the octet of a pair of digits
 abbrev pub octet : ℕ → ℕ → ℕ

@@ -4,9 +4,9 @@
 // No function here requires anything of its caller, whatever the state and the bytes are.
 #![tactic(auto)]
 
-ghost use Rattle.std.specs.Prelude.{◌≡◌, ◌+◌, min, take};
-ghost use Rattle.lister_hex.specs.Lines.{digit_value};
-ghost use Rattle.lister_hex.specs.Blocks.{last_line, standing, started, first, second, fed, finished};
+ghost use Rattle.std.specs.Prelude.{◌≡◌, take};
+ghost use Rattle.lister_hex.specs.Lines.{value_of};
+ghost use Rattle.lister_hex.specs.Blocks.{standing, started, first, second, fed, finished};
 ghost use Rattle.lister_hex.specs.Blocks.{on_byte as stepped};
 
 // What ends a line.
@@ -15,7 +15,7 @@ const NEWLINE: u8 = b'\n';
 // The most bytes that a stream has.
 pub const INPUT_LIMIT: usize = 32768;
 
-// Where reading stands: the stream's length so far, and the number of the line, from 1.
+// Where reading stands, one of three: the stream's length so far, and the number of the line, from 1.
 #[derive(Clone, Copy)]
 pub enum State {
     // After whole pairs.
@@ -24,15 +24,6 @@ pub enum State {
     Half { length: usize, line: u64, first: u8 },
     // Past a line that cannot be read.
     Stopped { line: u64 },
-}
-
-// What a text reads as.
-#[derive(Clone, Copy)]
-pub enum Read {
-    // A stream, which stands at the front of the lent array.
-    Stream { length: usize },
-    // The first line that cannot be read.
-    Unreadable { line: u64 },
 }
 
 // Where reading stands before the first byte.
@@ -47,26 +38,24 @@ pub fn feed(state: State, block: &[u8], out: &mut [u8; INPUT_LIMIT]) -> State
     ensures { standing result out.new ≡ fed (standing state out.old) block.now }
 {
     let mut here = state;
-    let mut i = 0;
-    while i < block.len() {
-        here = step(here, block[i], out);
-        i += 1;
+    for &byte in block {
+        here = step(here, byte, out);
     }
     here
 }
 
-// The answer, where the text ends here.
-pub fn finish(state: State) -> Read
+// The answer, where the text ends here: the length of the stream that stands at the front of the lent array, or the first line that cannot be read.
+pub fn finish(state: State) -> Result<usize, u64>
     ensures { result ≡ finished state }
 {
     match state {
-        State::Pairs { length, line: _ } => Read::Stream { length },
+        State::Pairs { length, line: _ } => Ok(length),
         State::Half {
             length: _,
             line,
             first: _,
-        } => Read::Unreadable { line },
-        State::Stopped { line } => Read::Unreadable { line },
+        } => Err(line),
+        State::Stopped { line } => Err(line),
     }
 }
 
@@ -81,10 +70,7 @@ pub fn part<'a>(out: &'a [u8; INPUT_LIMIT], length: usize) -> &'a [u8]
 fn front<'a>(s: &'a [u8], length: usize) -> &'a [u8]
     ensures { result.now ≡ take length s.now }
 {
-    if s.len() < length {
-        return &s[..];
-    }
-    &s[..length]
+    &s[..length.min(s.len())]
 }
 
 // Reads one byte more.
@@ -109,7 +95,7 @@ fn read_first(length: usize, line: u64, byte: u8) -> State
     if byte == NEWLINE {
         return State::Pairs {
             length,
-            line: next(line),
+            line: line.saturating_add(1),
         };
     }
     State::Half {
@@ -123,14 +109,12 @@ fn read_first(length: usize, line: u64, byte: u8) -> State
 fn read_second(length: usize, line: u64, first: u8, byte: u8, out: &mut [u8; INPUT_LIMIT]) -> State
     ensures { standing result out.new ≡ second length line first out.old byte }
 {
-    let high = value(first);
-    let low = value(byte);
-    if 16 <= high {
+    let Some(high) = value(first) else {
         return State::Stopped { line };
-    }
-    if 16 <= low {
+    };
+    let Some(low) = value(byte) else {
         return State::Stopped { line };
-    }
+    };
     if INPUT_LIMIT <= length {
         return State::Stopped { line };
     }
@@ -141,20 +125,13 @@ fn read_second(length: usize, line: u64, first: u8, byte: u8, out: &mut [u8; INP
     }
 }
 
-// The value of a digit, and 16 of any other byte.
-fn value(byte: u8) -> u8
-    ensures { result ≡ digit_value byte }
+// The value of a digit.
+fn value(byte: u8) -> Option<u8>
+    ensures { result ≡ value_of byte }
 {
     match byte {
-        b'0'..=b'9' => byte - b'0',
-        b'A'..=b'F' => 10 + (byte - b'A'),
-        _ => 16,
+        b'0'..=b'9' => Some(byte - b'0'),
+        b'A'..=b'F' => Some(10 + (byte - b'A')),
+        _ => None,
     }
-}
-
-// The number of the line after a line.
-fn next(line: u64) -> u64
-    ensures { result ≡ min (line + 1) last_line }
-{
-    if line < u64::MAX { line + 1 } else { line }
 }

@@ -15,10 +15,6 @@ pub sets-join : (l : List ℕ) (i : ℕ) (xs ys : List ℕ) → sets (sets l i x
 sets-join l i [] ys = rw add-zero
 sets-join l i (x ∷ xs) ys = rw (add-suc, ← suc-add) (sets-join (set l i x) (suc i) xs ys)
 
--- what is left of a list to store, from an index on, and at its end
-pub sets-next : (l : List ℕ) (at : ℕ) (xs : List ℕ) (i : ℕ) → i < length xs → sets l at (drop i xs) ≡ sets (set l at (get_or xs i 0)) (at + 1) (drop (i + 1) xs)
-sets-next l at xs i h = rw (add-one at, add-one i, drop-cons xs i 0)
-
 -- the rest of a line, from a number on: the space, the number, and what follows
 module _ (numbers : List ℕ) (i : ℕ) (h : i < length numbers) where
   abbrev number : ℕ
@@ -42,7 +38,7 @@ unfolding spaced
 rest_end numbers i h = rw (drop_of_length-le numbers h)
 
 -- a list that is stored at the front
-front : (xs l : List ℕ) → length xs ≤ length l → sets l 0 xs ≡ xs ++ drop (length xs) l
+pub front : (xs l : List ℕ) → length xs ≤ length l → sets l 0 xs ≡ xs ++ drop (length xs) l
 front xs l h =
     let room : 0 + length xs ≤ length l = omega arith in
     sets-eq xs l 0 room ∙ rw zero-add

@@ -4,7 +4,7 @@
 // None requires anything of its caller: every line fits.
 #![tactic(auto)]
 
-ghost use Rattle.std.specs.Prelude.{◌≡◌, ◌+◌, ◌*◌, ◌≤◌, ◌<◌, length};
+ghost use Rattle.std.specs.Prelude.{◌≡◌, ◌+◌, ◌*◌, ◌≤◌, ◌<◌, [], ◌∷◌, length};
 ghost use Rattle.std.proofs.lemmas.List.Edits.{sets};
 ghost use Rattle.lister_text.specs.Decimal.{decimal};
 ghost use Rattle.lister_text.specs.Lines.{rest, line, accepted, element, layout, logical, refused, unreadable, WritesLine};
@@ -37,22 +37,14 @@ pub fn put_element(
 pub fn put_layout(out: &mut [u8; LINE_ROOM], element: u32, portion: u32, unit: u32) -> usize
     ensures { WritesLine (layout element portion unit) out.old result out.new }
 {
-    put_line(
-        out,
-        b"layout",
-        &[element as u64, portion as u64, unit as u64],
-    )
+    put_match(out, b"layout", element, portion, unit)
 }
 
 // A match of the logical side.
 pub fn put_logical(out: &mut [u8; LINE_ROOM], element: u32, portion: u32, unit: u32) -> usize
     ensures { WritesLine (logical element portion unit) out.old result out.new }
 {
-    put_line(
-        out,
-        b"logical",
-        &[element as u64, portion as u64, unit as u64],
-    )
+    put_match(out, b"logical", element, portion, unit)
 }
 
 // A stream was refused: the number, and the place.
@@ -67,6 +59,14 @@ pub fn put_unreadable(out: &mut [u8; LINE_ROOM], number: u64) -> usize
     ensures { WritesLine (unreadable number) out.old result out.new }
 {
     put_line(out, b"unreadable", &[number])
+}
+
+// A match of either side: the side's word, and three numbers.
+fn put_match(out: &mut [u8], side: &[u8], element: u32, portion: u32, unit: u32) -> usize
+    requires { length side.now + 63 < length out.old }
+    ensures { WritesLine (line side.now (element ∷ portion ∷ unit ∷ [])) out.old result out.new }
+{
+    put_line(out, side, &[element as u64, portion as u64, unit as u64])
 }
 
 // A word and some numbers, each of which takes a space and at most 20 digits.
@@ -85,11 +85,9 @@ fn put_rest(out: &mut [u8], at: usize, numbers: &[u64]) -> usize
     ensures out_after { out.new ≡ sets out.old at (rest numbers.now) }
 {
     let mut here = at;
-    let mut i = 0;
-    while i < numbers.len() {
+    for &n in numbers {
         out[here] = b' ';
-        here = put_number(out, here + 1, numbers[i]);
-        i += 1;
+        here = put_number(out, here + 1, n);
     }
     out[here] = b'\n';
     here + 1
@@ -101,12 +99,9 @@ fn put_word(out: &mut [u8], word: &[u8]) -> usize
     ensures value { result ≡ length word.now }
     ensures out_after { out.new ≡ sets out.old 0 word.now }
 {
-    let mut i = 0;
-    while i < word.len() {
-        out[i] = word[i];
-        i += 1;
-    }
-    i
+    let end = word.len();
+    out[..end].copy_from_slice(word);
+    end
 }
 
 // A number, from a place on. Tells the place past it.

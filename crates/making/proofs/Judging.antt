@@ -6,6 +6,7 @@ use Prim.Native.Nat.{ℕ, ◌+◌, ◌-◌, ◌*◌, ◌/◌, ◌<◌, ◌≤◌
 use native.Mathlib.Numerals.{add-one}
 use native.Mathlib.Omega.{arith}
 use lib.ListN.{length, replicate, length-replicate}
+use Rattle.std.specs.Prelude.{Ok, Err}
 use Rattle.names.specs.Hash.{hashes}
 use Rattle.rows.specs.Rows.{scratch_width}
 use Rattle.rows.specs.Index.{links_begin}
@@ -68,7 +69,7 @@ module _ {buffer numbers rows index : List ℕ} {k : ℕ} (j : Judging buffer nu
 
   -- entry k is refused: that is the answer
   pub stopped-at : (number m : ℕ) → k < m → number ≡ entry_refusal buffer j.done (entry_at numbers k) → (number ≡ 0 → ⊥)
-      → record { number = number; place = k } ≡ reason_of (judge_entries buffer (entries_in numbers m))
+      → Err (record { number = number; place = k }) ≡ reason_of (judge_entries buffer (entries_in numbers m))
   stopped-at number m l e n =
       ap (λ (x : ℕ). reason_of (refused_entry x k)) e
       ∙ sym (ap reason_of (refused-at buffer numbers k j.done j.so_far (λ z. n (e ∙ z)) m l))
@@ -83,5 +84,5 @@ module _ {buffer numbers rows index : List ℕ} {k : ℕ} (j : Judging buffer nu
   }
 
   -- no entry is left
-  pub none_left : record { number = 0; place = 0 } ≡ reason_of (judge_entries buffer (entries_in numbers k))
+  pub none_left : Ok tt ≡ reason_of (judge_entries buffer (entries_in numbers k))
   none_left = sym (ap reason_of j.so_far)

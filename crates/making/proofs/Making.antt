@@ -9,6 +9,7 @@ use lib.ListN.{length, drop}
 use lib.Seq.{sets, sets-eq}
 use borrow.Author.Tests.{lt-ltb, le-ltb, eqb-true, eqb-false, ne_eqb}
 use borrow.Table.Steps.{cases}
+use Rattle.std.specs.Prelude.{Result, Err}
 use Rattle.octets.specs.Walk.{stream_limit}
 use Rattle.normal.specs.Passes.{PutsOctets}
 use Rattle.answers.specs.declared.Reason.{Reason}
@@ -79,26 +80,28 @@ module _ (buffer numbers out : List ℕ) where
   entries = entries_of numbers
 
   -- an entry is refused
-  refused-by : (j : JudgedEntries) → judge_entries buffer entries ≡ j → ((reason_of j).number ≡ 0 → ⊥)
-      → MakeOutcome buffer entries out (not_made (reason_of j).number (reason_of j).place) out
-  unfolding made_of made_output
-  refused-by (refused_entry number k) e n = record { answered = rw e; put = rw (e, ne_eqb number 0 n) }
-  refused-by (fit said) e n = absurd (n refl)
-
-  pub make-refused : (reason : Reason) → reason ≡ reason_of (judge_entries buffer entries) → (reason.number ≡ 0 → ⊥)
+  refused-by : (j : JudgedEntries) → judge_entries buffer entries ≡ j → (reason : Reason) → Err reason ≡ reason_of j
       → MakeOutcome buffer entries out (not_made reason.number reason.place) out
-  make-refused reason e n =
-      subst (λ (r : Reason). MakeOutcome buffer entries out (not_made r.number r.place) out) (sym e)
-      (refused-by (judge_entries buffer entries) refl (λ z. n (ap (λ (r : Reason). r.number) e ∙ z)))
+  unfolding made_of made_output
+  refused-by (refused_entry number k) e reason n =
+      let same : reason ≡ record { number = number; place = k } = cc in
+      let some : (number ≡ 0 → ⊥) = λ z. refused-some buffer [] entries number k e z in
+      rw same (record { answered = rw e; put = rw (e, ne_eqb number 0 some) })
+  refused-by (fit said) e reason n = absurd cc
+
+  pub make-refused : (reason : Reason) → Err reason ≡ reason_of (judge_entries buffer entries)
+      → MakeOutcome buffer entries out (not_made reason.number reason.place) out
+  make-refused reason e = refused-by (judge_entries buffer entries) refl reason e
 
   -- no entry is refused
-  fits_by : (j : JudgedEntries) → judge_entries buffer entries ≡ j → (reason_of j).number ≡ 0 → judge_entries buffer entries ≡ fit (said_in buffer numbers)
-  fits_by (refused_entry number k) e z = absurd (refused-some buffer [] entries number k e z)
-  fits_by (fit said) e z = e ∙ ap fit (says buffer entries said e)
+  fits_by : (j : JudgedEntries) → judge_entries buffer entries ≡ j → ((reason : Reason) → reason_of j ≡ Err reason → ⊥)
+      → judge_entries buffer entries ≡ fit (said_in buffer numbers)
+  fits_by (refused_entry number k) e none = absurd (none (record { number = number; place = k }) refl)
+  fits_by (fit said) e none = e ∙ ap fit (says buffer entries said e)
 
-  pub make-fits : (reason : Reason) → reason ≡ reason_of (judge_entries buffer entries) → reason.number ≡ 0 → judge_entries buffer entries ≡ fit
-      (said_in buffer numbers)
-  make-fits reason e z = fits_by (judge_entries buffer entries) refl (sym (ap (λ (r : Reason). r.number) e) ∙ z)
+  pub make-fits : (judged : Result (Unit {0}) Reason) → judged ≡ reason_of (judge_entries buffer entries) → ((reason : Reason) → judged ≡ Err reason → ⊥)
+      → judge_entries buffer entries ≡ fit (said_in buffer numbers)
+  make-fits judged e none = fits_by (judge_entries buffer entries) refl (λ reason z. none reason (e ∙ z))
 
   module _ (fits : judge_entries buffer entries ≡ fit (said_in buffer numbers)) where
     pub make-lie : AllLie buffer numbers

@@ -1,12 +1,15 @@
 -- The rules of an entry, one after another, as code finds them.
-use mathlib.Core.Path.{◌≡◌, refl}
+use mathlib.Core.Path.{◌≡◌, refl, ap, sym, ◌∙◌}
 use mathlib.Core.Bool.{Bool, true, false, false≢true, true≢false, and-eq-true_iff}
 use mathlib.Core.List.{List, [], ◌∷◌}
 use Prim.Native.Nat.{ℕ, suc, ◌+◌, ◌-◌, ◌<◌, ◌≤◌}
 use native.Mathlib.Omega.{arith}
 use lib.Dec.{leb}
-use lib.ListN.{length, length-append}
+use lib.ListN.{length, take, drop, length-append}
+use lib.Seq.{slice}
 use borrow.Author.Tests.{lt-ltb, le-ltb, leb-true}
+use Rattle.std.proofs.lemmas.List.{drop-take}
+use Rattle.elements.specs.ElementRows.{bytes_in}
 use Rattle.names.specs.Names.{space_byte, longest_identifier, is_identifier, is_portion}
 use Rattle.contents.specs.declared.Span.{Span}
 use Rattle.portions.specs.Portions.{all}
@@ -39,6 +42,12 @@ all_pass true false c e = absurd (false≢true e)
 all_pass false b c e = absurd (false≢true e)
 
 module _ (buffer : List ℕ) where
+  -- a part of the buffer that is lent has the octets of the part
+  pub part-is : (part : Span) → part.first ≤ part.past → take (part.past - part.first) (drop part.first buffer) ≡ bytes_in buffer part
+  part-is part order =
+      let e : part.past ≡ part.first + (part.past - part.first) = omega arith in
+      sym (ap (λ (k : ℕ). slice part.first k buffer) e ∙ drop-take part.first (part.past - part.first) buffer)
+
   part_lies : (part : Span) → inside buffer part ≡ true → PartLies buffer part
   part_lies part e =
       let p = (and-eq-true_iff (leb part.first part.past) (leb part.past (length buffer))).0 e in

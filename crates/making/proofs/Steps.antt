@@ -1,4 +1,5 @@
 -- The steps of code that makes a letter: one entry more that is judged, looked up, measured or written.
+use Rattle.std.specs.Prelude.{Option, Some, None}
 use mathlib.Core.Path.{◌≡◌, refl, ap, sym, ◌∙◌}
 use mathlib.Core.Bool.{true, false≢true}
 use mathlib.Core.List.{List, [], ◌∷◌, ◌++◌, append_assoc}
@@ -11,8 +12,6 @@ use borrow.Author.Tests.{ne_eqb}
 use borrow.Table.Steps.{cases}
 use Rattle.names.specs.Names.{grouped, is_identifier, same}
 use Rattle.names.proofs.Same.{same-eq, same_refl}
-use Rattle.rows.specs.declared.RowFound.{RowFound}
-use Rattle.rows.specs.declared.RowFound.TheVariants.{At, Nothing}
 use Rattle.rows.specs.Columns.{identifier_column, first_at, past_at}
 use Rattle.rows.specs.Rows.{name_space_of}
 use Rattle.rows.specs.Chains.{Has, FindsRow}
@@ -52,13 +51,13 @@ module _ {buffer rows index : List ℕ} {n : ℕ} {done : List Said} (keeps : Ke
       let s = some-octets said.identifier spelt.identifier in
       record { below = l; present = omega (arith, ap length v); of_space = ap name_space_of (keeps.kinds j l); of_bytes = v }
 
-  pub used-found : (found : RowFound) → FindsRow buffer rows identifier_column n block_space said.identifier found → used done said ≡ is_found found
+  pub used-found : (found : Option ℕ) → FindsRow buffer rows identifier_column n block_space said.identifier found → used done said ≡ is_found found
   unfolding used
-  used-found (At j) (h, last) =
+  used-found (Some j) (h, last) =
       let (x, e) = at-below done j (omega (arith, h.below, keeps.counted)) in
       let v : x.identifier ≡ said.identifier = sym (keeps.values j x e) ∙ h.of_bytes in
       any-true (λ d. same d.identifier said.identifier) done j x e (rw v (same_refl said.identifier))
-  used-found Nothing none =
+  used-found None none =
       any_false (λ d. same d.identifier said.identifier) done
       (λ j x e. cases (same x.identifier said.identifier) (λ t. absurd (none j (has j x e t))) (λ t. t))
 

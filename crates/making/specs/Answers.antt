@@ -1,6 +1,6 @@
 -- The question that makes a letter: what it answers, and what it leaves in the output. W-208: "then 17, then 18; place is the entry's
 -- number, 0 for the last two; output untouched".
-use Rattle.std.specs.Prelude.{ℕ, ◌≡◌, cond, List, [], eqb, ltb, length}
+use Rattle.std.specs.Prelude.{ℕ, ◌≡◌, cond, List, [], eqb, ltb, length, Result, Ok, Err}
 use Rattle.octets.specs.Walk.{stream_limit}
 use Rattle.answers.specs.declared.Reason.{Reason}
 use Rattle.answers.specs.declared.Written.{Written}
@@ -26,10 +26,10 @@ made_by (fit said) out = made_form (stream_of said) out
 unfoldable pub made_of : (buffer : List ℕ) → List Entry → (out : List ℕ) → Written
 made_of buffer entries out = made_by (judge_entries buffer entries) out
 
--- the number and place of a refusal of entries, 0 and 0 if none is refused
-abbrev pub reason_of : JudgedEntries → Reason
-reason_of (refused_entry number entry) = record { number = number; place = entry }
-reason_of (fit said) = record { number = 0; place = 0 }
+-- the number and place of a refusal of entries, if one is refused
+abbrev pub reason_of : JudgedEntries → Result (Unit {0}) Reason
+reason_of (refused_entry number entry) = Err (record { number = number; place = entry })
+reason_of (fit said) = Ok tt
 
 -- the stream that is made of the entries, if none is refused
 abbrev pub form_by : JudgedEntries → List ℕ

@@ -1,18 +1,15 @@
 -- What scratch keeps for 15, so that an identifier used before is found by the index: a row for each entry that is done, of the kind of a
 -- block, with the bounds of its identifier. The other numbers of a row are free.
-use Rattle.std.specs.Prelude.{ℕ, ◌+◌, ◌*◌, ◌/◌, ◌<◌, ◌≤◌, ◌≡◌, Bool, true, false, List, [], ◌∷◌, ◌++◌, length}
+use Rattle.std.specs.Prelude.{ℕ, ◌+◌, ◌*◌, ◌/◌, ◌<◌, ◌≤◌, ◌≡◌, Bool, true, false, List, [], ◌∷◌, ◌++◌, length, Option, Some, None, Result, Ok, Err}
 use Rattle.std.proofs.Math.Option.{some}
 use Rattle.std.proofs.Math.ListN.{get_elem?}
 use Rattle.names.specs.Hash.{hash}
 use Rattle.contents.specs.declared.Span.{Span}
-use Rattle.rows.specs.declared.RowFound.{RowFound}
-use Rattle.rows.specs.declared.RowFound.TheVariants.{At, Nothing}
 use Rattle.rows.specs.Rows.{scratch_width}
 use Rattle.rows.specs.Columns.{identifier_column, kind_at, value_at, Bounded}
 use Rattle.rows.specs.Index.{links_of, Filed, Unused}
 use Rattle.elements.specs.ElementRows.{bytes_in}
 use Rattle.making.specs.declared.Entry.{Entry}
-use Rattle.making.specs.declared.rules.Ruled.{Ruled}
 use Rattle.making.specs.Entries.{Said, Spelt, said_by, used, entry_refusal}
 use Rattle.making.specs.Flat.{entry_width}
 use Rattle.making.specs.Lent.{EntryLies}
@@ -33,9 +30,9 @@ pub record Keeps (buffer rows index : List ℕ) (n : ℕ) (done : List Said) : T
   pub values : (j : ℕ) (x : Said) → get_elem? done j ≡ some x → value_at buffer rows identifier_column j ≡ x.identifier
 
 -- whether a look-up found something
-abbrev pub is_found : RowFound → Bool
-is_found (At j) = true
-is_found Nothing = false
+abbrev pub is_found : Option ℕ → Bool
+is_found (Some j) = true
+is_found None = false
 
 -- what 15 is told of an identifier, whichever entries scratch keeps
 abbrev pub TellsUsed : (buffer rows index : List ℕ) (n : ℕ) → Span → Bool → Type 0
@@ -48,10 +45,16 @@ pub record Passes (buffer : List ℕ) (n : ℕ) (entry : Entry) (hashed : ℕ) :
   pub few : n < 2047
   pub hash_is : hashed ≡ hash (bytes_in buffer entry.identifier)
 
--- what the rules make of entry n, whichever entries scratch keeps
-pub record Rules (buffer rows index : List ℕ) (n : ℕ) (entry : Entry) (ruled : Ruled) : Type 0 where
-  pub number_is : (done : List Said) → Keeps buffer rows index n done → ruled.number ≡ entry_refusal buffer done entry
-  pub passes : ruled.number ≡ 0 → Passes buffer n entry ruled.hashed
+-- the number of a refusal by the rules, 0 if there is none
+abbrev pub ruled_by : Result ℕ ℕ → ℕ
+ruled_by (Ok hashed) = 0
+ruled_by (Err number) = number
+
+-- what the rules make of entry n, whichever entries scratch keeps: the hash of its identifier, or the number of its refusal, which is not 0
+pub record Rules (buffer rows index : List ℕ) (n : ℕ) (entry : Entry) (ruled : Result ℕ ℕ) : Type 0 where
+  pub number_is : (done : List Said) → Keeps buffer rows index n done → ruled_by ruled ≡ entry_refusal buffer done entry
+  pub passes : (hashed : ℕ) → ruled ≡ Ok hashed → Passes buffer n entry hashed
+  pub refuses : (number : ℕ) → ruled ≡ Err number → number ≡ 0 → ⊥
 
 -- scratch keeps an entry more, whichever it kept
 abbrev pub KeepsOn : (buffer rows index : List ℕ) (n first past : ℕ) (rows' index' : List ℕ) → Type 0

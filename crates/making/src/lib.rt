@@ -2,9 +2,10 @@
 // anything written.
 #![tactic(auto)]
 
-ghost use Rattle.std.specs.Prelude.{◌≡◌, ◌+◌, ◌*◌, ◌/◌, ◌<◌, ◌≤◌, length};
+ghost use Rattle.std.specs.Prelude.{◌≡◌, ◌+◌, ◌*◌, ◌<◌, ◌≤◌, length, replicate};
 ghost use Rattle.making.specs.Entries.{judge_entries};
 ghost use Rattle.making.specs.Answers.{reason_of, MakeOutcome};
+ghost use Rattle.making.specs.Keeps.{Roomy};
 ghost use Rattle.making.specs.Flat.{entry_width, span_at, entry_at, entries_of};
 
 use answers::{Reason, Written};
@@ -32,20 +33,14 @@ const TOO_LONG: u32 = normal::TOO_LONG as u32;
 
 const OUTPUT_TOO_SHORT: u32 = normal::OUTPUT_TOO_SHORT as u32;
 
-fn wide(x: u32) -> usize
-    ensures { result ≡ x }
-{
-    x as usize
-}
-
 // A first and past among the numbers.
 fn span_at(numbers: &[u32], at: usize) -> Span
     requires { at + 1 < length numbers.now }
     ensures { result ≡ span_at numbers.now at }
 {
     Span {
-        first: wide(numbers[at]),
-        past: wide(numbers[at + 1]),
+        first: numbers[at] as usize,
+        past: numbers[at + 1] as usize,
     }
 }
 
@@ -62,41 +57,35 @@ fn entry_at(numbers: &[u32], k: usize) -> Entry
     }
 }
 
-// The refusal of entries that are few, with scratch that is soon cleared.
-fn judge_few(buffer: &[u8], numbers: &[u32]) -> Reason
-    requires { length numbers.now / entry_width ≤ 128 }
+// The refusal of entries, with scratch of so many numbers: a function, and so a frame, for each size.
+fn judge_in<const ROWS: usize, const LINKS: usize>(
+    buffer: &[u8],
+    numbers: &[u32],
+) -> Result<(), Reason>
+    requires room { Roomy numbers.now (replicate ROWS 0) (replicate LINKS 0) }
+    requires small { (ROWS ≤ 24564) × (LINKS ≤ 6145) }
     ensures { result ≡ reason_of (judge_entries buffer.now (entries_of numbers.now)) }
 {
-    let mut rows = [0u32; 1536];
-    let mut index = [0u16; 385];
+    let mut rows = [0u32; ROWS];
+    let mut index = [0u16; LINKS];
     rules::judge_entries(buffer, numbers, &mut rows, &mut index)
 }
 
-// The refusal of any entries, with scratch for as many as fit.
-fn judge_many(buffer: &[u8], numbers: &[u32]) -> Reason
-    ensures { result ≡ reason_of (judge_entries buffer.now (entries_of numbers.now)) }
-{
-    let mut rows = [0u32; 24564];
-    let mut index = [0u16; 6145];
-    rules::judge_entries(buffer, numbers, &mut rows, &mut index)
-}
-
-// The refusal of entries: its number and place, 0 and 0 if there is none.
-fn refused_by(buffer: &[u8], numbers: &[u32]) -> Reason
+// The refusal of entries: its number and place, if there is one. Scratch for few entries is soon cleared; the other is for as many as fit.
+fn judge(buffer: &[u8], numbers: &[u32]) -> Result<(), Reason>
     ensures { result ≡ reason_of (judge_entries buffer.now (entries_of numbers.now)) }
 {
     if numbers.len() / ENTRY_WIDTH <= FEW_ENTRIES {
-        return judge_few(buffer, numbers);
+        return judge_in::<1536, 385>(buffer, numbers);
     }
-    judge_many(buffer, numbers)
+    judge_in::<24564, 6145>(buffer, numbers)
 }
 
 // Makes a letter of the entries that the numbers give, whose parts stand in the buffer. Nothing is written to an output that is too short.
 pub fn make(buffer: &[u8], numbers: &[u32], out: &mut [u8]) -> Written
     ensures { MakeOutcome buffer.now (entries_of numbers.now) out.old result out.new }
 {
-    let refused = refused_by(buffer, numbers);
-    if refused.number != 0 {
+    if let Err(refused) = judge(buffer, numbers) {
         return Written {
             number: refused.number,
             place: refused.place,

@@ -1,5 +1,5 @@
 // The refusals of entries: 27, 14, 15 and 9 in this order within each, entries in order.
-ghost use Rattle.std.specs.Prelude.{◌≡◌, true, ◌+◌, ◌*◌, ◌<◌, ◌≤◌, length};
+ghost use Rattle.std.specs.Prelude.{◌≡◌, ◌+◌, ◌*◌, ◌<◌, ◌≤◌, length};
 ghost use Rattle.std.proofs.Math.Seq.{slice};
 ghost use Rattle.names.specs.Hash.{hash};
 ghost use Rattle.rows.specs.Rows.{scratch_width};
@@ -16,14 +16,6 @@ use super::{ENTRY_WIDTH, Entry, entry_at};
 use answers::Reason;
 use contents::Span;
 use names::{Asked, LONGEST_IDENTIFIER};
-use rows::RowFound;
-
-// What the rules make of an entry: the number of its refusal, or 0 and the hash of its identifier.
-#[derive(Clone, Copy)]
-struct Ruled {
-    number: u32,
-    hashed: usize,
-}
 
 const OUTSIDE: u32 = 27;
 
@@ -68,8 +60,8 @@ fn is_well_spelt(buffer: &[u8], entry: Entry) -> bool
 {
     let identifier = entry.identifier;
     let portion = entry.portion;
-    if names::is_identifier(buffer, identifier.first, identifier.past) {
-        if names::is_portion(buffer, portion.first, portion.past) {
+    if names::is_identifier(&buffer[identifier.first..identifier.past]) {
+        if names::is_portion(&buffer[portion.first..portion.past]) {
             let size = identifier.past - identifier.first + 1 + (portion.past - portion.first);
             return size <= LONGEST_IDENTIFIER;
         }
@@ -91,13 +83,10 @@ fn is_used(
     ensures { TellsUsed buffer.now rows.now index.now n identifier result }
 {
     let asked = Asked {
-        first: identifier.first,
-        past: identifier.past,
-        joined: false,
-        from: 0,
-        to: 0,
+        front: &buffer[identifier.first..identifier.past],
+        back: None,
     };
-    match rows::find(
+    rows::find(
         buffer,
         rows,
         index,
@@ -106,44 +95,30 @@ fn is_used(
         rows::OBJECTS,
         hashed,
         asked,
-    ) {
-        RowFound::At(_) => true,
-        RowFound::Nothing => false,
-    }
+    )
+    .is_some()
 }
 
-// The refusal of entry n, after those that are done.
-fn rule(buffer: &[u8], rows: &[u32], index: &[u16], n: usize, entry: Entry) -> Ruled
+// The refusal of entry n, after those that are done; if there is none, the hash of its identifier.
+fn rule(buffer: &[u8], rows: &[u32], index: &[u16], n: usize, entry: Entry) -> Result<usize, u32>
     requires { Bounded buffer.now rows.now identifier_column n × Filed buffer.now rows.now identifier_column index.now n }
     ensures { Rules buffer.now rows.now index.now n entry result }
 {
     if !parts_lie(buffer, entry) {
-        return Ruled {
-            number: OUTSIDE,
-            hashed: 0,
-        };
+        return Err(OUTSIDE);
     }
     if !is_well_spelt(buffer, entry) {
-        return Ruled {
-            number: MISSPELT,
-            hashed: 0,
-        };
+        return Err(MISSPELT);
     }
     let identifier = entry.identifier;
-    let hashed = names::hash_over(buffer, identifier.first, identifier.past, 0);
+    let hashed = names::hash_over(&buffer[identifier.first..identifier.past], 0);
     if is_used(buffer, rows, index, n, identifier, hashed) {
-        return Ruled {
-            number: USED_BEFORE,
-            hashed: 0,
-        };
+        return Err(USED_BEFORE);
     }
     if MOST_ENTRIES <= n {
-        return Ruled {
-            number: TOO_MANY,
-            hashed: 0,
-        };
+        return Err(TOO_MANY);
     }
-    Ruled { number: 0, hashed }
+    Ok(hashed)
 }
 
 // Keeps the identifier of entry n, which has passed: a row of the kind of a block, and its place in the index.
@@ -169,35 +144,27 @@ fn keep(
     rows::insert(buffer, rows, index, n, rows::IDENTIFIER, hashed);
 }
 
-// Judges the entries in order: the number and place of the first refusal, 0 and 0 if there is none.
-pub fn judge_entries(buffer: &[u8], numbers: &[u32], rows: &mut [u32], index: &mut [u16]) -> Reason
+// Judges the entries in order: the number and place of the first refusal, if there is one.
+pub fn judge_entries(
+    buffer: &[u8],
+    numbers: &[u32],
+    rows: &mut [u32],
+    index: &mut [u16],
+) -> Result<(), Reason>
     requires { Roomy numbers.now rows.old index.old }
     ensures { result ≡ reason_of (judge_entries buffer.now (entries_of numbers.now)) }
 {
-    let count = numbers.len() / ENTRY_WIDTH;
-    let mut k: usize = 0;
-    while k < count {
-        let ruled = rule(buffer, rows, index, k, entry_at(numbers, k));
-        if ruled.number != 0 {
-            return Reason {
-                number: ruled.number,
+    for k in 0..numbers.len() / ENTRY_WIDTH {
+        match rule(buffer, rows, index, k, entry_at(numbers, k)) {
+            Err(number) => return Err(Reason {
+                number,
                 place: k as u32,
-            };
+            }),
+            Ok(hashed) => {
+                let at = k * ENTRY_WIDTH;
+                keep(buffer, rows, index, k, numbers[at], numbers[at + 1], hashed);
+            }
         }
-        let at = k * ENTRY_WIDTH;
-        keep(
-            buffer,
-            rows,
-            index,
-            k,
-            numbers[at],
-            numbers[at + 1],
-            ruled.hashed,
-        );
-        k += 1;
     }
-    Reason {
-        number: 0,
-        place: 0,
-    }
+    Ok(())
 }

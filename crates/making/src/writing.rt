@@ -18,10 +18,7 @@ use octets::STREAM_LIMIT;
 fn cap(size: usize) -> usize
     ensures { result ≡ capped size }
 {
-    if STREAM_LIMIT < size {
-        return STREAM_LIMIT + 1;
-    }
-    size
+    size.min(STREAM_LIMIT + 1)
 }
 
 // How long the value of a text unit is, by the octets of its names and its text.
@@ -57,10 +54,7 @@ fn put_four(out: &mut [u8], at: usize, a: u8, b: u8, c: u8, d: u8) -> usize
     requires { at + 4 ≤ length out.old }
     ensures { PutsOctets out.old at (a ∷ b ∷ c ∷ d ∷ []) result out.new }
 {
-    out[at] = a;
-    out[at + 1] = b;
-    out[at + 2] = c;
-    out[at + 3] = d;
+    out[at..at + 4].copy_from_slice(&[a, b, c, d]);
     at + 4
 }
 
@@ -158,12 +152,9 @@ pub fn measure(numbers: &[u32]) -> usize
     requires { AllOrdered numbers.now }
     ensures { result ≡ capped (size_for numbers.now) }
 {
-    let count = numbers.len() / ENTRY_WIDTH;
     let mut size: usize = 2;
-    let mut k: usize = 0;
-    while k < count {
+    for k in 0..numbers.len() / ENTRY_WIDTH {
         size = cap(size + entry_size(crate::entry_at(numbers, k)));
-        k += 1;
     }
     size
 }
@@ -174,12 +165,9 @@ fn put_entries(buffer: &[u8], numbers: &[u32], out: &mut [u8], begin: usize) -> 
         × (begin ≡ 2) × (size_for numbers.now ≤ length out.old) }
     ensures { PutsOctets out.old begin (entries_octets (said_in buffer.now numbers.now)) result out.new }
 {
-    let count = numbers.len() / ENTRY_WIDTH;
     let mut at = begin;
-    let mut k: usize = 0;
-    while k < count {
+    for k in 0..numbers.len() / ENTRY_WIDTH {
         at = put_entry(buffer, crate::entry_at(numbers, k), out, at);
-        k += 1;
     }
     at
 }

@@ -1,3 +1,2 @@
--- Octets: the integer that octets are, by what the code looks at. Tables: within a table of pairs.
+-- Octets: the integer that octets are, by what the code looks at.
 pub mod Octets
-pub mod Tables

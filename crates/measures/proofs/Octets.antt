@@ -7,8 +7,9 @@ use native.Mathlib.Omega.{arith}
 use lib.Dec.{eqb, leb}
 use lib.ListN.{length, get_or}
 use borrow.Author.Tests.{le-leb, lt-leb, leb-true, eq-eqb, ne_eqb}
+use Rattle.std.specs.Prelude.{Some, None}
 use Rattle.headers.specs.Head.{is_in, big_endian}
-use Rattle.measures.specs.Integers.{nine_bits, shortest, is_integer, is_negative, distance_of, no_integer, integer_of}
+use Rattle.measures.specs.Integers.{nine_bits, shortest, is_integer, is_negative, distance_of, integer_of}
 
 pub no_octets : (v : List ℕ) → length v ≡ 0 → is_integer v ≡ false
 unfolding is_integer shortest
@@ -69,18 +70,18 @@ first-negative [] l = absurd (omega arith)
 first-negative (x ∷ xs) l = refl
 
 -- the integer, case by case
-pub no-integer : (v : List ℕ) → is_integer v ≡ false → no_integer ≡ integer_of v
+pub no-integer : (v : List ℕ) → is_integer v ≡ false → None ≡ integer_of v
 unfolding integer_of
 no-integer v e = rw e
 
 module _ (v : List ℕ) (e : is_integer v ≡ true) (n : ℕ) (b : n ≡ big_endian v) where
-  pub not-under : get_or v 0 0 < 128 → record { valid = true; negative = false; distance = n } ≡ integer_of v
+  pub not-under : get_or v 0 0 < 128 → Some (record { negative = false; distance = n }) ≡ integer_of v
   unfolding integer_of distance_of
   not-under l =
       let f : is_negative v ≡ false = first-negative v (octets-bounded v e).0 ∙ lt-leb 128 (get_or v 0 0) l in
       rw (e, f, b)
 
-  pub under-zero : 128 ≤ get_or v 0 0 → (p : ℕ) → p ≡ 256 ^ length v → record { valid = true; negative = true; distance = p - n } ≡ integer_of v
+  pub under-zero : 128 ≤ get_or v 0 0 → (p : ℕ) → p ≡ 256 ^ length v → Some (record { negative = true; distance = p - n }) ≡ integer_of v
   unfolding integer_of distance_of
   under-zero l p q =
       let f : is_negative v ≡ true = first-negative v (octets-bounded v e).0 ∙ le-leb 128 (get_or v 0 0) l in

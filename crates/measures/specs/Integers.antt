@@ -1,6 +1,6 @@
 -- The integer that the octets of a value are. X.209, 8: "two's complement", and the fewest octets: the first nine bits are not all alike. W-210: "at
 -- most four octets and shortest".
-use Rattle.std.specs.Prelude.{ℕ, ◌+◌, ◌*◌, ◌-◌, ◌/◌, ◌^◌, Bool, cond, true, false, not, ◌&&◌, List, [], ◌∷◌, leb, length}
+use Rattle.std.specs.Prelude.{ℕ, ◌+◌, ◌*◌, ◌-◌, ◌/◌, ◌^◌, Bool, cond, true, false, not, ◌&&◌, List, [], ◌∷◌, leb, length, Option, Some, None}
 use Rattle.headers.specs.Head.{is_in, big_endian}
 use Rattle.measures.specs.declared.Integer.{Integer}
 
@@ -27,10 +27,6 @@ is_negative (x ∷ others) = leb 0x80 x
 unfoldable pub distance_of : List ℕ → ℕ
 distance_of octets = cond (is_negative octets) (256 ^ length octets - big_endian octets) (big_endian octets)
 
--- what is no such integer
-abbrev pub no_integer : Integer
-no_integer = record { valid = false; negative = false; distance = 0 }
-
 -- the integer that octets are, if they are one
-unfoldable pub integer_of : List ℕ → Integer
-integer_of octets = cond (is_integer octets) (record { valid = true; negative = is_negative octets; distance = distance_of octets }) no_integer
+unfoldable pub integer_of : List ℕ → Option Integer
+integer_of octets = cond (is_integer octets) (Some (record { negative = is_negative octets; distance = distance_of octets })) None

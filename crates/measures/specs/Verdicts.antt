@@ -1,7 +1,9 @@
 -- What a page's two numbers are to PM1. T.502, table 10 (source document 003): the row of dimensions, with its essential and its non-essential
 -- values, in basic measurement units. W-210: "State within once over the table of pairs."
-use Rattle.std.specs.Prelude.{ℕ, Bool, cond, false, not, ◌&&◌, ◌||◌, List, [], ◌∷◌, eqb, leb}
+use Rattle.std.specs.Prelude.{ℕ, Bool, cond, false, ◌&&◌, ◌||◌, List, [], ◌∷◌, eqb, leb, Option, Some, None}
 use Rattle.measures.specs.declared.Integer.{Integer}
+use Rattle.measures.specs.declared.Verdict.{Verdict}
+use Rattle.measures.specs.declared.Verdict.TheVariants.{Absent, Essential, NonEssential, Outside, NotFixed}
 
 -- the numbers of the verdicts
 abbrev pub none : ℕ
@@ -18,6 +20,14 @@ outside = 3
 
 abbrev pub not_fixed : ℕ
 not_fixed = 4
+
+-- the number of each
+abbrev pub number_of : Verdict → ℕ
+number_of Absent = none
+number_of Essential = essential
+number_of NonEssential = non_essential
+number_of Outside = outside
+number_of NotFixed = not_fixed
 
 -- a page may be so wide and so high, or, turned, so high and so wide
 pub record Pair : Type 0 where
@@ -54,8 +64,7 @@ unfoldable pub verdict_of_sizes : (horizontal vertical : ℕ) → ℕ
 verdict_of_sizes h v = cond (within h v essential_pairs) essential (cond (within h v non_essential_pairs) non_essential outside)
 
 -- Of two values: "Anything but two fixed numbers .. is 'not fixed'"; "outside if either is under 1; else ..".
-unfoldable pub verdict_of_two : (horizontal vertical : Integer) → ℕ
-verdict_of_two h v =
-    cond (not (h.valid && v.valid)) not_fixed
-    (cond (under_one h || under_one v) outside
-    (verdict_of_sizes h.distance v.distance))
+unfoldable pub verdict_of_two : (horizontal vertical : Option Integer) → ℕ
+verdict_of_two None v = not_fixed
+verdict_of_two (Some h) None = not_fixed
+verdict_of_two (Some h) (Some v) = cond (under_one h || under_one v) outside (verdict_of_sizes h.distance v.distance)

@@ -3,31 +3,31 @@
 
 ghost use Rattle.std.specs.Prelude.{◌≡◌, [], ◌∷◌, ◌≤◌, ◌^◌};
 ghost use Rattle.measures.specs.Integers.{is_integer, integer_of};
-ghost use Rattle.measures.specs.Verdicts.{pair, not_over, within, essential_pairs, non_essential_pairs, verdict_of_sizes, under_one, verdict_of_two};
+ghost use Rattle.measures.specs.Verdicts.{number_of, pair, not_over, within, essential_pairs, non_essential_pairs, verdict_of_sizes, under_one, verdict_of_two};
 
-// The numbers of the verdicts.
-pub const NONE: usize = 0;
-
-const ESSENTIAL: usize = 1;
-
-const NON_ESSENTIAL: usize = 2;
-
-const OUTSIDE: usize = 3;
-
-pub const NOT_FIXED: usize = 4;
-
-// An integer: whether octets are one, whether it is under 0, and how far from 0 it is.
-#[derive(Clone, Copy)]
-pub struct Integer {
-    pub valid: bool,
-    pub negative: bool,
-    pub distance: usize,
+// The verdicts on a page. The numbers are those of the list that is lent.
+#[derive(Clone, Copy, Debug, PartialEq, Eq)]
+pub enum Verdict {
+    Absent = 0,
+    Essential = 1,
+    NonEssential = 2,
+    Outside = 3,
+    NotFixed = 4,
 }
 
-fn wide(x: u8) -> usize
-    ensures { result ≡ x }
-{
-    x as usize
+impl From<Verdict> for u32 {
+    ghost from_gives = { λ verdict number. number ≡ number_of verdict };
+
+    fn from(verdict: Verdict) -> u32 {
+        verdict as u32
+    }
+}
+
+// An integer: whether it is under 0, and how far from 0 it is.
+#[derive(Clone, Copy)]
+pub struct Integer {
+    pub negative: bool,
+    pub distance: usize,
 }
 
 // Whether octets are an integer: four at most, and no octet more than it needs.
@@ -44,7 +44,7 @@ fn is_integer(v: &[u8]) -> bool
     if n == 1 {
         return true;
     }
-    let nine = wide(v[0]) * 2 + wide(v[1]) / 128;
+    let nine = v[0] as usize * 2 + v[1] as usize / 128;
     if nine == 0 {
         return false;
     }
@@ -65,29 +65,23 @@ fn power(n: usize) -> usize
 }
 
 // The integer that octets are, if they are one.
-pub fn integer_of(v: &[u8]) -> Integer
+pub fn integer_of(v: &[u8]) -> Option<Integer>
     ensures { result ≡ integer_of v.now }
 {
     if !is_integer(v) {
-        return Integer {
-            valid: false,
-            negative: false,
-            distance: 0,
-        };
+        return None;
     }
     let n = headers::big_endian(v, 0, v.len());
-    if wide(v[0]) < 0x80 {
-        return Integer {
-            valid: true,
+    if v[0] < 0x80 {
+        return Some(Integer {
             negative: false,
             distance: n,
-        };
+        });
     }
-    Integer {
-        valid: true,
+    Some(Integer {
         negative: true,
         distance: power(v.len()) - n,
-    }
+    })
 }
 
 // Whether neither number is over its bound.
@@ -101,6 +95,7 @@ fn is_not_over(h: usize, v: usize, x: usize, y: usize) -> bool
 }
 
 // Whether two numbers are within a pair, as it stands or turned.
+#[tactic(auto, unfolding(crate::specs::Verdicts::within))]
 fn fits(h: usize, v: usize, x: usize, y: usize) -> bool
     ensures { result ≡ within h v (pair x y ∷ []) }
 {
@@ -110,6 +105,7 @@ fn fits(h: usize, v: usize, x: usize, y: usize) -> bool
     is_not_over(h, v, y, x)
 }
 
+#[tactic(auto, unfolding(crate::specs::Verdicts::within))]
 fn is_essential(h: usize, v: usize) -> bool
     ensures { result ≡ within h v essential_pairs }
 {
@@ -117,6 +113,7 @@ fn is_essential(h: usize, v: usize) -> bool
 }
 
 // The pairs as the request prints them. The first two lie within the third, and so decide nothing.
+#[tactic(auto, unfolding(crate::specs::Verdicts::within))]
 fn is_non_essential(h: usize, v: usize) -> bool
     ensures { result ≡ within h v non_essential_pairs }
 {
@@ -130,16 +127,17 @@ fn is_non_essential(h: usize, v: usize) -> bool
 }
 
 // The verdict on two sizes that are not under 1.
-fn verdict_of_sizes(h: usize, v: usize) -> usize
-    ensures { result ≡ verdict_of_sizes h v }
+#[tactic(auto, unfolding(crate::specs::Verdicts::verdict_of_sizes))]
+fn verdict_of_sizes(h: usize, v: usize) -> Verdict
+    ensures { number_of result ≡ verdict_of_sizes h v }
 {
     if is_essential(h, v) {
-        return ESSENTIAL;
+        return Verdict::Essential;
     }
     if is_non_essential(h, v) {
-        return NON_ESSENTIAL;
+        return Verdict::NonEssential;
     }
-    OUTSIDE
+    Verdict::Outside
 }
 
 // Whether a number is under 1.
@@ -153,20 +151,21 @@ fn is_under_one(n: Integer) -> bool
 }
 
 // The verdict on two values.
-pub fn verdict_of_two(h: Integer, v: Integer) -> usize
-    ensures { result ≡ verdict_of_two h v }
+#[tactic(auto, unfolding(crate::specs::Verdicts::verdict_of_two))]
+pub fn verdict_of_two(h: Option<Integer>, v: Option<Integer>) -> Verdict
+    ensures { number_of result ≡ verdict_of_two h v }
 {
-    if !h.valid {
-        return NOT_FIXED;
+    let Some(wide) = h else {
+        return Verdict::NotFixed;
+    };
+    let Some(high) = v else {
+        return Verdict::NotFixed;
+    };
+    if is_under_one(wide) {
+        return Verdict::Outside;
     }
-    if !v.valid {
-        return NOT_FIXED;
+    if is_under_one(high) {
+        return Verdict::Outside;
     }
-    if is_under_one(h) {
-        return OUTSIDE;
-    }
-    if is_under_one(v) {
-        return OUTSIDE;
-    }
-    verdict_of_sizes(h.distance, v.distance)
+    verdict_of_sizes(wide.distance, high.distance)
 }

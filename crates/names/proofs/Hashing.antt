@@ -1,19 +1,11 @@
 -- A hash goes on byte by byte, so in parts too, and stays below 2^32; its bucket is one of the buckets.
 use mathlib.Core.Path.{◌≡◌, refl, sym, ap, ◌∙◌}
 use mathlib.Core.List.{List, [], ◌∷◌, ◌++◌}
-use Prim.Native.Nat.{ℕ, ◌+◌, ◌*◌, ◌-◌, ◌%◌, ◌^◌, ◌<◌, ◌≤◌}
+use Prim.Native.Nat.{ℕ, ◌*◌, ◌-◌, ◌%◌, ◌^◌, ◌<◌}
 use native.Mathlib.Omega.{arith}
 use lib.Bits.{and_le_r}
-use lib.ListN.{length, get_or}
-use lib.Seq.{slice}
 use Rattle.names.specs.Names.{space_byte}
 use Rattle.names.specs.Hash.{hashes, hash_step, hash_from, hash, bucket}
-use Rattle.names.proofs.Parts.{slice-more}
-
-pub hash-more : (s : List ℕ) (first past h : ℕ) → first < past → past ≤ length s
-    → hash_from h (slice first past s) ≡ hash_from (hash_step h (get_or s first 0)) (slice (first + 1) past s)
-unfolding hash_from
-hash-more s first past h some inside = ap (hash_from h) (slice-more s first past some inside)
 
 pub hash-append : (h : ℕ) (xs ys : List ℕ) → hash_from h (xs ++ ys) ≡ hash_from (hash_from h xs) ys
 unfolding hash_from

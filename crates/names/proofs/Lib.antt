@@ -1,6 +1,6 @@
--- Parts: how a part of a list begins and where it is cut. Spelling: a byte more of a group or of digits.
+-- Parts: how a part of a list begins and where it is cut. Spelling: what the length of a name decides of its spelling.
 -- Same: what it is to be the same, in parts too. Joined: a joined name tells its parts.
--- Hashing: a byte more, two parts, and the bounds of hashes and buckets. Examples: spellings, computed.
+-- Hashing: two parts, and the bounds of hashes and buckets. Examples: spellings, computed.
 pub mod Parts
 pub mod Spelling
 pub mod Same

@@ -1,18 +1,16 @@
--- Lists are the same exactly when they are equal; compared from the front, in two parts, or by their lengths alone.
-use mathlib.Core.Path.{◌≡◌, refl, ap}
+-- Lists are the same exactly when they are equal; compared to the end, in two parts, or by their lengths alone.
+use mathlib.Core.Path.{◌≡◌, refl, sym, ap, ◌∙◌}
 use mathlib.Core.Bool.{true, false, ◌&&◌, false≢true}
 use mathlib.Core.List.{List, [], ◌∷◌, ◌++◌}
-use Prim.Native.Nat.{ℕ, ◌+◌, ◌-◌, ◌<◌, ◌≤◌}
+use Prim.Native.Nat.{ℕ, ◌+◌}
 use native.Mathlib.Omega.{arith}
 use borrow.Author.Tests.{eq-eqb, eqb-true}
 use borrow.Table.Steps.{cases}
 use lib.Dec.{eqb}
-use lib.ListN.{length, get_or, length-append}
-use lib.Seq.{slice, length-slice}
-use Rattle.names.specs.declared.Asked.{Asked}
+use lib.ListN.{length, get_or, take, drop, length-append}
+use lib.Seq.{length-take-le}
 use Rattle.names.specs.Names.{space_byte, same}
-use Rattle.names.specs.Asked.{spelling, AskedWithin}
-use Rattle.names.proofs.Parts.{slice-more, slice_cut}
+use Rattle.names.proofs.Parts.{cut_at}
 
 pub same-eq : (xs ys : List ℕ) → same xs ys ≡ true → xs ≡ ys
 unfolding same
@@ -33,6 +31,13 @@ same_refl (x ∷ xs) = rw (eq-eqb x x refl) (same_refl xs)
 pub same-lengths : (xs ys : List ℕ) → (length xs ≡ length ys → ⊥) → same xs ys ≡ false
 same-lengths xs ys n = cases (same xs ys) (λ t. absurd (n (ap length (same-eq xs ys t)))) (λ t. t)
 
+-- those of which nothing is left are
+pub same_ended : (xs ys : List ℕ) → length xs ≡ length ys → length xs ≡ 0 → same xs ys ≡ true
+unfolding same
+same_ended [] [] e n = refl
+same_ended [] (y ∷ ys) e n = absurd (omega arith)
+same_ended (x ∷ xs) ys e n = absurd (omega arith)
+
 pub same-append : (xs us : List ℕ) (y v : ℕ) (ys vs : List ℕ) → length xs ≡ length us
     → same (xs ++ y ∷ ys) (us ++ v ∷ vs) ≡ (same xs us && (eqb y v && same ys vs))
 unfolding same
@@ -42,42 +47,16 @@ same-append (x ∷ xs) [] y v ys vs e = absurd (omega arith)
 same-append (x ∷ xs) (u ∷ us) y v ys vs e =
     cases (eqb x u) (λ t. rw t (same-append xs us y v ys vs (omega arith))) (λ t. rw t)
 
--- two parts, compared by their first bytes
-pub same_more : (s : List ℕ) (first past from to : ℕ) → first < past → past ≤ length s → from < to → to ≤ length s
-    → same (slice first past s) (slice from to s) ≡ (eqb (get_or s first 0) (get_or s from 0) && same (slice (first + 1) past s) (slice (from + 1) to s))
-unfolding same
-same_more s first past from to some inside some' inside' =
-    rw (slice-more s first past some inside, slice-more s from to some' inside')
-
--- a name of two parts, compared with a part of the stream
-module _ (s : List ℕ) (asked : Asked) (within : AskedWithin s asked) (joined : asked.joined ≡ true) (first past : ℕ) (inside : past ≤ length s) where
-  abbrev size : ℕ
-  size = asked.past - asked.first
-
-  abbrev size' : ℕ
-  size' = asked.to - asked.from
-
+-- a name of two parts, compared with another by its parts
+module _ (front back name : List ℕ) where
   abbrev at : ℕ
-  at = first + size
+  at = length front
 
-  long : length (slice asked.first asked.past s) ≡ size
-  long = length-slice asked.first asked.past s within.first_inside
+  pub joined-other : (length name ≡ at + 1 + length back → ⊥) → same (front ++ space_byte ∷ back) name ≡ false
+  joined-other n = same-lengths (front ++ space_byte ∷ back) name (simp length-append (λ e. n (omega arith)))
 
-  long' : length (slice asked.from asked.to s) ≡ size'
-  long' = length-slice asked.from asked.to s within.second_inside
-
-  pub joined-other : (past - first ≡ size + 1 + size' → ⊥) → same (spelling s asked) (slice first past s) ≡ false
-  joined-other n =
-      rw joined
-      (same-lengths (slice asked.first asked.past s ++ space_byte ∷ slice asked.from asked.to s) (slice first past s)
-      (simp (length-append, long, long', length-slice first past s inside) (λ e. n (omega arith))))
-
-  pub joined_same : past - first ≡ size + 1 + size' → same (spelling s asked) (slice first past s)
-      ≡ (same (slice asked.first asked.past s) (slice first at s)
-      && (eqb space_byte (get_or s at 0) && same (slice asked.from asked.to s) (slice (at + 1) (at + 1 + size') s)))
+  pub joined_same : length name ≡ at + 1 + length back → same (front ++ space_byte ∷ back) name
+      ≡ (same front (take at name) && (eqb space_byte (get_or name at 0) && same back (drop (at + 1) name)))
   joined_same e =
-      let end : past ≡ at + 1 + size' = omega arith in
-      let cut : length (slice first at s) ≡ at - first = length-slice first at s (omega arith) in
-      rw (joined, ← end, slice_cut s first at past (omega arith) (omega arith) inside)
-      (same-append (slice asked.first asked.past s) (slice first at s) space_byte (get_or s at 0) (slice asked.from asked.to s) (slice (at + 1) past s)
-      (omega (arith, long)))
+      ap (same (front ++ space_byte ∷ back)) (cut_at at name (omega (arith, e)))
+      ∙ same-append front (take at name) space_byte (get_or name at 0) back (drop (at + 1) name) (sym (length-take-le at name (omega (arith, e))))

@@ -1,59 +1,55 @@
--- What the length of a part and its first byte decide of its spelling.
+-- What the length of a name decides of its spelling, and what its next byte does.
 use mathlib.Core.Path.{◌≡◌, ap}
 use mathlib.Core.Bool.{Bool, true, false, cond, ◌&&◌}
 use mathlib.Core.List.{List}
-use Prim.Native.Nat.{ℕ, ◌+◌, ◌-◌, ◌<◌, ◌≤◌}
+use mathlib.Core.Logic.{◌⊎◌, inl, inr}
+use Prim.Native.Nat.{ℕ, ◌+◌, ◌<◌, ◌≤◌}
 use native.Mathlib.Omega.{arith}
-use borrow.Author.Tests.{le-leb, lt-leb}
+use borrow.Author.Tests.{eq-eqb, ne_eqb, le-leb, lt-leb}
 use lib.Dec.{eqb}
-use lib.ListN.{length, get_or}
-use lib.Seq.{slice, length-slice}
+use lib.ListN.{length, get_or, drop}
+use Rattle.std.proofs.lemmas.List.{drop_more}
 use Rattle.names.specs.Names.{space_byte, longest_identifier, longest_portion, is_digit, grouped, is_identifier, all_digits, is_portion}
-use Rattle.names.proofs.Parts.{slice-more}
 
-module _ (s : List ℕ) (first past : ℕ) (inside : past ≤ length s) where
-  abbrev part : List ℕ
-  part = slice first past s
-
-  size : length part ≡ past - first
-  size = length-slice first past s inside
-
-  pub identifier-long : longest_identifier < past - first → is_identifier part ≡ false
+module _ (name : List ℕ) where
+  pub identifier-long : longest_identifier < length name → is_identifier name ≡ false
   unfolding is_identifier
-  identifier-long l = rw (size, lt-leb _ _ l)
+  identifier-long l = rw (lt-leb _ _ l)
 
-  pub identifier-short : past - first ≤ longest_identifier → is_identifier part ≡ grouped false part
+  pub identifier-short : length name ≤ longest_identifier → is_identifier name ≡ grouped false name
   unfolding is_identifier
-  identifier-short l = rw (size, le-leb _ _ l)
+  identifier-short l = rw (le-leb _ _ l)
 
-  pub portion-empty : past ≡ first → is_portion part ≡ false
+  pub portion-empty : length name ≡ 0 → is_portion name ≡ false
   unfolding is_portion
-  portion-empty e = let l : past - first < 1 = omega arith in rw (size, lt-leb _ _ l)
+  portion-empty e = rw e
 
-  module _ (some : (past ≡ first → ⊥)) (ordered : first ≤ past) where
-    not-empty : 1 ≤ past - first
-    not-empty = omega (arith, some)
+  pub portion-long : longest_portion < length name → is_portion name ≡ false
+  unfolding is_portion
+  portion-long l = let some : 1 ≤ length name = omega (arith, l) in rw (le-leb _ _ some, lt-leb _ _ l)
 
-    pub portion-long : longest_portion < past - first → is_portion part ≡ false
-    unfolding is_portion
-    portion-long l = rw (size, le-leb _ _ not-empty, lt-leb _ _ l)
+  pub portion-short : (length name ≡ 0 → ⊥) → length name ≤ longest_portion → is_portion name ≡ all_digits name
+  unfolding is_portion
+  portion-short n l = let some : 1 ≤ length name = omega (arith, n) in rw (le-leb _ _ some, le-leb _ _ l)
 
-    pub portion-short : past - first ≤ longest_portion → is_portion part ≡ all_digits part
-    unfolding is_portion
-    portion-short l = rw (size, le-leb _ _ not-empty, le-leb _ _ l)
-
-  module _ (some : first < past) where
+  module _ (at : ℕ) (some : at < length name) where
     abbrev byte : ℕ
-    byte = get_or s first 0
+    byte = get_or name at 0
 
     abbrev rest : List ℕ
-    rest = slice (first + 1) past s
+    rest = drop (at + 1) name
 
-    pub grouped-more : (in_group : Bool) → grouped in_group part
+    pub grouped-more : (in_group : Bool) → grouped in_group (drop at name)
         ≡ cond (is_digit byte) (grouped true rest) (eqb byte space_byte && in_group && grouped false rest)
     unfolding grouped
-    grouped-more in_group = ap (grouped in_group) (slice-more s first past some inside)
+    grouped-more in_group = ap (grouped in_group) (drop_more name at 0 some)
 
-    pub digits_more : all_digits part ≡ (is_digit byte && all_digits rest)
+    pub digits_more : all_digits (drop at name) ≡ (is_digit byte && all_digits rest)
     unfolding all_digits
-    digits_more = ap all_digits (slice-more s first past some inside)
+    digits_more = ap all_digits (drop_more name at 0 some)
+
+-- a byte that ends a group, or does not: one that is no space, or has no digit before it, does not
+pub no_end : (b : ℕ) (in_group after : Bool) → (b ≡ space_byte → ⊥) ⊎ ((b ≡ space_byte) × (in_group ≡ false))
+    → (eqb b space_byte && in_group && after) ≡ false
+no_end b in_group after (inl n) = rw (ne_eqb _ _ n)
+no_end b in_group after (inr (e, f)) = rw (eq-eqb _ _ e, f)

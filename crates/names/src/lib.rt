@@ -1,10 +1,9 @@
 // Identifiers and portion numbers: how they are spelt, when two are the same, and the hash of their bytes.
 #![tactic(auto)]
 
-ghost use Rattle.std.specs.Prelude.{◌≡◌, [], ◌∷◌, ◌+◌, ◌-◌, ◌<◌, ◌≤◌, length};
-ghost use Rattle.std.proofs.Math.Seq.{slice};
+ghost use Rattle.std.specs.Prelude.{◌≡◌, [], ◌∷◌, ◌<◌, ◌≤◌};
 ghost use Rattle.names.specs.Names.{space_byte, is_digit, is_identifier, is_portion, same};
-ghost use Rattle.names.specs.Asked.{spelling, AskedWithin};
+ghost use Rattle.names.specs.Asked.{spelling};
 ghost use Rattle.names.specs.Hash.{hashes, hash_step, hash_from, bucket};
 
 pub const SPACE: u8 = 32;
@@ -18,32 +17,21 @@ const HASHES: usize = 4_294_967_296;
 pub fn is_digit(byte: u8) -> bool
     ensures { result ≡ is_digit byte }
 {
-    if byte < 48 {
-        return false;
-    }
-    byte <= 57
+    48 <= byte && byte <= 57
 }
 
-// Whether s[first..past] is an identifier.
-pub fn is_identifier(s: &[u8], first: usize, past: usize) -> bool
-    requires { (first ≤ past) × (past ≤ length s.now) }
-    ensures { result ≡ is_identifier (slice first past s.now) }
+pub fn is_identifier(name: &[u8]) -> bool
+    ensures { result ≡ is_identifier name.now }
 {
-    if LONGEST_IDENTIFIER < past - first {
+    if LONGEST_IDENTIFIER < name.len() {
         return false;
     }
-    let mut i = first;
     let mut in_group = false;
-    while i < past {
-        let byte = s[i];
-        i += 1;
+    for &byte in name {
         if is_digit(byte) {
             in_group = true;
         } else {
-            if byte != SPACE {
-                return false;
-            }
-            if !in_group {
+            if byte != SPACE || !in_group {
                 return false;
             }
             in_group = false;
@@ -52,91 +40,60 @@ pub fn is_identifier(s: &[u8], first: usize, past: usize) -> bool
     in_group
 }
 
-// Whether s[first..past] is a portion number.
-pub fn is_portion(s: &[u8], first: usize, past: usize) -> bool
-    requires { (first ≤ past) × (past ≤ length s.now) }
-    ensures { result ≡ is_portion (slice first past s.now) }
+pub fn is_portion(name: &[u8]) -> bool
+    ensures { result ≡ is_portion name.now }
 {
-    if past == first {
+    if name.is_empty() || LONGEST_PORTION < name.len() {
         return false;
     }
-    if LONGEST_PORTION < past - first {
-        return false;
-    }
-    let mut i = first;
-    while i < past {
-        if !is_digit(s[i]) {
+    for &byte in name {
+        if !is_digit(byte) {
             return false;
         }
-        i += 1;
     }
     true
 }
 
-// Whether s[first..past] stands at `from` too.
-fn stands_at(s: &[u8], first: usize, past: usize, from: usize) -> bool
-    requires { (first ≤ past) × (past ≤ length s.now) × (from + (past - first) ≤ length s.now) }
-    ensures { result ≡ same (slice first past s.now) (slice from (from + (past - first)) s.now) }
+// A loop, which becomes part of its callers: `==` on slices would be a call of memcmp for each name.
+pub fn is_same(a: &[u8], b: &[u8]) -> bool
+    ensures { result ≡ same a.now b.now }
 {
-    let mut i = first;
-    let mut j = from;
-    while i < past {
-        if s[i] != s[j] {
+    if a.len() != b.len() {
+        return false;
+    }
+    for (x, y) in a.iter().zip(b) {
+        if x != y {
             return false;
         }
-        i += 1;
-        j += 1;
     }
     true
 }
 
-// Whether s[first..past] and s[from..to] have the same bytes.
-pub fn is_same(s: &[u8], first: usize, past: usize, from: usize, to: usize) -> bool
-    requires { (first ≤ past) × (past ≤ length s.now) × (from ≤ to) × (to ≤ length s.now) }
-    ensures { result ≡ same (slice first past s.now) (slice from to s.now) }
-{
-    if past - first != to - from {
-        return false;
-    }
-    stands_at(s, first, past, from)
-}
-
-// A name that is looked for: s[first..past], or, if joined, that, one space and s[from..to].
+// A name that is looked for: the front alone, or, if there is a back, the front, one space and the back.
 #[derive(Clone, Copy)]
-pub struct Asked {
-    pub first: usize,
-    pub past: usize,
-    pub joined: bool,
-    pub from: usize,
-    pub to: usize,
+pub struct Asked<'a> {
+    pub front: &'a [u8],
+    pub back: Option<&'a [u8]>,
 }
 
-// Whether s[first..past] is the name asked for, compared in place.
-pub fn is_asked(s: &[u8], asked: Asked, first: usize, past: usize) -> bool
-    requires { AskedWithin s.now asked × (first ≤ past) × (past ≤ length s.now) }
-    ensures { result ≡ same (spelling s.now asked) (slice first past s.now) }
+// Whether a name is the one asked for, which is compared in its parts. Inline, as it is part of the loop over a chain.
+#[inline(always)]
+pub fn is_asked(asked: Asked, name: &[u8]) -> bool
+    ensures { result ≡ same (spelling asked.entry) name.now }
 {
-    if !asked.joined {
-        return is_same(s, asked.first, asked.past, first, past);
+    let size = asked.front.len();
+    match asked.back {
+        None => is_same(asked.front, name),
+        Some(back) => {
+            if name.len() != size + 1 + back.len() {
+                return false;
+            }
+            if !is_same(asked.front, &name[..size]) || name[size] != SPACE {
+                return false;
+            }
+            is_same(back, &name[size + 1..])
+        }
     }
-    let size = asked.past - asked.first;
-    if past - first != size + 1 + (asked.to - asked.from) {
-        return false;
-    }
-    let at = first + size;
-    if !stands_at(s, asked.first, asked.past, first) {
-        return false;
-    }
-    if s[at] != SPACE {
-        return false;
-    }
-    stands_at(s, asked.from, asked.to, at + 1)
-}
-
-fn wide(x: u8) -> usize
-    ensures { result ≡ x }
-{
-    x as usize
 }
 
 // The hash h after one byte more. It is made of shifts and sums, as not every machine that runs this multiplies.
@@ -144,20 +101,18 @@ fn hash_byte(h: usize, byte: u8) -> usize
     requires { h < hashes }
     ensures { (result ≡ hash_step h byte) × (result < hashes) }
 {
-    let sum = h + wide(byte);
+    let sum = h + byte as usize;
     ((sum << 6) + sum + (sum >> 9)) % HASHES
 }
 
-// The hash h after s[first..past].
-pub fn hash_over(s: &[u8], first: usize, past: usize, h: usize) -> usize
-    requires { (first ≤ past) × (past ≤ length s.now) × (h < hashes) }
-    ensures { (result ≡ hash_from h (slice first past s.now)) × (result < hashes) }
+// The hash h after these bytes.
+pub fn hash_over(bytes: &[u8], h: usize) -> usize
+    requires { h < hashes }
+    ensures { (result ≡ hash_from h bytes.now) × (result < hashes) }
 {
-    let mut i = first;
     let mut r = h;
-    while i < past {
-        r = hash_byte(r, s[i]);
-        i += 1;
+    for &byte in bytes {
+        r = hash_byte(r, byte);
     }
     r
 }

@@ -9,6 +9,7 @@ use lib.Count.{count_leading_zeros, leading_length}
 use lib.Dec.{ltb, lit≤}
 use lib.ListN.{length, set, length-append}
 use lib.Pow.{pow_mono}
+use Rattle.std.proofs.lemmas.List.{set_comm}
 use lib.Seq.{sets}
 use borrow.Author.Tests.{le-ltb}
 use Rattle.laws.proofs.Tests.{cond-holds}
@@ -59,14 +60,21 @@ further-none n e = lt_of_not-le (λ (h : 0x80 ≤ n).
     (λ _. cond-holds P (ltb n 0x1000000) (λ _. lit≤ tt) (λ _. lit≤ tt)))) in
     omega arith)
 
--- the digits above the last, and then the last
-pub put-digit : (l : List ℕ) (at k n : ℕ) → 0 < k → set (sets l at (number_octets (k - 1) (n / 256))) (at + (k - 1)) (n % 256) ≡ sets l at (number_octets k n)
+-- what is written past some numbers may be written before them
+sets-before : (l : List ℕ) (at : ℕ) (xs : List ℕ) (i x : ℕ) → at + length xs ≤ i → set (sets l at xs) i x ≡ sets (set l i x) at xs
+sets-before l at [] i x h = refl
+sets-before l at (y ∷ ys) i x h =
+    sets-before (set l at y) (suc at) ys i x (omega arith) ∙ ap (λ (k : List ℕ). sets k (suc at) ys) (set_comm l at i y x (λ e. omega arith))
+
+-- the last digit, and then those above it
+pub put-digit : (l : List ℕ) (at k n : ℕ) → 0 < k → sets l at (number_octets k n) ≡ sets (set l (at + (k - 1)) (n % 256)) at (number_octets (k - 1) (n / 256))
 unfolding number_octets
 put-digit l at zero n p = absurd (omega arith)
 put-digit l at (suc k) n p =
     let e : suc k - 1 ≡ k = omega arith in
+    let ds = number_octets k (n / 256) in
     let d = length_digits k (n / 256) in
-    rw (e, sets-append l at (number_octets k (n / 256)) (n % 256 ∷ []), d)
+    rw (e, sets-append l at ds (n % 256 ∷ []), d) (sets-before l at ds (at + k) (n % 256) (omega arith))
 
 pub put_none : (l : List ℕ) (at k n : ℕ) → k ≤ 0 → l ≡ sets l at (number_octets k n)
 unfolding number_octets

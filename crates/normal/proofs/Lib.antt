@@ -20,7 +20,5 @@ pub mod Measuring
 pub mod Putting
 -- what the writer gives; the theorems: determined, untouched
 pub mod Answers
--- what the writer of the mailroom box gives, and that it is what the other gives
-pub mod Short
 -- the examples hold
 pub mod Examples

@@ -1,11 +1,12 @@
 -- The measuring of a run: what is counted so far, with what is left from `at`, is all of it, and a turn keeps that.
 use mathlib.Core.Path.{◌≡◌, refl, ap, sym, ◌∙◌}
-use mathlib.Core.Bool.{Bool, true, false, false≢true}
+use mathlib.Core.Bool.{Bool, true, false, cond, false≢true}
 use mathlib.Core.List.{List, ◌++◌, append_assoc, append-nil}
 use Prim.Native.Nat.{ℕ, ◌+◌, ◌-◌, ◌*◌, ◌≤◌}
 use native.Mathlib.Omega.{arith}
 use lib.ListN.{length}
 use lib.Seq.{slice, slice_empty, length-slice}
+use Rattle.std.specs.Prelude.{None}
 use Rattle.headers.specs.declared.Header.{Header}
 use Rattle.headers.specs.Head.{constructed, type_field}
 use Rattle.octets.specs.Walk.{past_of, run}
@@ -14,7 +15,6 @@ use Rattle.normal.specs.Normal.{length_octets, Octets}
 use Rattle.normal.specs.Passes.{RunEnds, ValueEnds, end_of, normal_from, normal_in, header_size, RunMeasures, ValueMeasures}
 use Rattle.normal.proofs.Own.{own-header, slice-join}
 use Rattle.normal.proofs.Passes.{Turn, Meets, turned, run-left, form_small, value-run, value-plain, unmarked}
-use Rattle.normal.specs.declared.Ahead.TheVariants.{Last}
 
 -- a primitive value is its own normal form
 pub plain-measured : (room : ℕ) (s : List ℕ) (h : Header) → ValueEnds room s h → constructed h.code ≡ false
@@ -39,6 +39,11 @@ pub run-measured : (room : ℕ) (s : List ℕ) (h : Header) → constructed h.co
     → RunMeasures (room - 1) s h.start h.bound h.marked m → ValueMeasures room s h m
 run-measured room s h k m v = let (e, f) = value-run room s h k in record { measures = rw (e, f) v; inner = λ _. k }
 
+-- a marked run ends past its closing mark, any other at its limit
+past-of-end : (marked : Bool) (at : ℕ) → past_of marked (cond marked (at + 2) at) ≡ at
+past-of-end true at = omega arith
+past-of-end false at = refl
+
 module _ (room : ℕ) (s : List ℕ) (from limit : ℕ) (marked : Bool) where
   -- from `from` to `at` there are `size` octets of the normal form, and perhaps they are those of the stream
   pub record Counted (at size : ℕ) (shortest : Bool) : Type 0 where
@@ -56,12 +61,12 @@ module _ (room : ℕ) (s : List ℕ) (from limit : ℕ) (marked : Bool) where
 
   module _ (at size : ℕ) (shortest : Bool) (c : Counted at size shortest) where
     -- at the end of the run all is counted
-    pub all-counted : (past : ℕ) → Meets room s at limit marked (Last past) → RunMeasures room s from limit marked
-        (record { next = past; size = size; shortest = shortest })
-    all-counted past (e, f, g) = record {
-      past = sym (ap end_of (c.same ∙ e));
+    pub all-counted : Meets room s at limit marked None → (past : ℕ) → cond marked (at + 2) at ≡ past
+        → RunMeasures room s from limit marked (record { next = past; size = size; shortest = shortest })
+    all-counted (e, f) past p = record {
+      past = sym (ap end_of (c.same ∙ e) ∙ p);
       size = sym (c.sum ∙ ap (λ (l : List ℕ). size + length l) f ∙ omega arith);
-      own = λ b. let (o, z) = c.own b in (o ∙ ap (λ (l : List ℕ). slice from (from + size) s ++ l) f ∙ append-nil (slice from (from + size) s), z ∙ sym g);
+      own = λ b. let (o, z) = c.own b in (o ∙ ap (λ (l : List ℕ). slice from (from + size) s ++ l) f ∙ append-nil (slice from (from + size) s), z ∙ sym (ap (past_of marked) (sym p) ∙ past-of-end marked at));
     }
 
     module _ (h : Header) (u : Turn room s at limit marked h) (m : Measured) (v : ValueMeasures room s h m) where

@@ -25,10 +25,9 @@ use Rattle.tree.specs.Accepts.{Whole}
 use Rattle.tree.proofs.Heads.{ReadFrom, Tells, head-tells}
 use Rattle.tree.proofs.Sound.{Coded, sound, read-from}
 use Rattle.normal.specs.declared.Measured.{Measured}
-use Rattle.normal.specs.declared.Ahead.{Ahead}
-use Rattle.normal.specs.declared.Ahead.TheVariants.{Item as Inner, Last}
+use Rattle.std.specs.Prelude.{Option, Some, None}
 use Rattle.normal.specs.Normal.{coded, normal_of}
-use Rattle.normal.specs.Passes.{RunEnds, ValueEnds, end_of, normal_from, normal_in, ahead_by, ahead_at, header_size, ValueMeasures}
+use Rattle.normal.specs.Passes.{RunEnds, ValueEnds, end_of, normal_from, normal_in, item_of, ahead_at, header_size, ValueMeasures}
 use Rattle.normal.proofs.Normals.{small, coded-length}
 
 -- ---- a run that ended
@@ -136,9 +135,9 @@ module _ (room : ℕ) (s : List ℕ) (at limit : ℕ) (marked : Bool) where
         ≡ coded (type_field h.code) (normal_in room s h) (normal_from room s (end_of (value_of room s h).how) limit marked)
 
   -- what was met
-  abbrev pub Meets : Ahead → Type 0
-  Meets (Inner h) = Turn h
-  Meets (Last past) = ((run room s at limit marked).how ≡ ends past) × (normal_from room s at limit marked ≡ []) × (past_of marked past ≡ at)
+  abbrev pub Meets : Option Header → Type 0
+  Meets (Some h) = Turn h
+  Meets None = ((run room s at limit marked).how ≡ ends (cond marked (at + 2) at)) × (normal_from room s at limit marked ≡ [])
 
   module _ (r : RunEnds room s at limit marked) where
     turn : at < limit → (h : Header) → head_at s at limit marked room ≡ Item h → Turn h
@@ -170,35 +169,35 @@ module _ (room : ℕ) (s : List ℕ) (at limit : ℕ) (marked : Bool) where
               ap (λ (k : ℕ). slice h.start k s) (ap (λ (b : Bool). past_of b next) m ∙ definite m));
         }
 
-    at_mark : at < limit → head_at s at limit marked room ≡ ClosingMark → Meets (Last (at + 2))
+    at_mark : at < limit → head_at s at limit marked room ≡ ClosingMark → Meets None
     unfolding normal_from normal_of
     at_mark l e =
         let p = at_head room s at limit marked l ClosingMark e in
         let m = (subst (Tells s at limit room marked) e (head-tells s at limit room marked r.within l)).0 in
-        let back : at + 2 - 2 ≡ at = omega arith in
-        (ap (λ (x : Walked). x.how) p, ap (λ (x : Walked). normal_of (plain s x.items)) p, rw m back)
+        let past = ap (λ (b : Bool). ends (cond b (at + 2) at)) (sym m) in
+        (ap (λ (x : Walked). x.how) p ∙ past, ap (λ (x : Walked). normal_of (plain s x.items)) p)
 
-    meets-head : at < limit → (head : Head) → head_at s at limit marked room ≡ head → Meets (ahead_by at head)
+    meets-head : at < limit → (head : Head) → head_at s at limit marked room ≡ head → Meets (item_of head)
     meets-head l (Item h) e = turn l h e
     meets-head l ClosingMark e = at_mark l e
     meets-head l (Refusal number place) e = absurd (subst Passed e (passed room s at limit marked l r.whole))
 
 at-end : (room : ℕ) (s : List ℕ) (at limit : ℕ) (marked : Bool) → at ≡ limit → Whole (run room s at limit marked).how
-    → Meets room s at limit marked (Last limit)
+    → Meets room s at limit marked None
 unfolding normal_from normal_of
 at-end room s at limit true e w =
     let p : run room s at limit true ≡ stopped 7 limit = run_step room s at limit true (omega arith) ∙ rw (le-leb limit at (omega arith)) in
     absurd (subst (λ (x : Walked). Whole x.how) p w)
 at-end room s at limit false e w =
     let p : run room s at limit false ≡ ended limit = run_step room s at limit false (omega arith) ∙ rw (le-leb limit at (omega arith)) in
-    (ap (λ (x : Walked). x.how) p, ap (λ (x : Walked). normal_of (plain s x.items)) p, sym e)
+    (ap (λ (x : Walked). x.how) p ∙ ap ends (sym e), ap (λ (x : Walked). normal_of (plain s x.items)) p)
 
 module _ (room : ℕ) (s : List ℕ) (at limit : ℕ) (marked : Bool) (r : RunEnds room s at limit marked) where
-  meets_at : (b : Bool) → leb limit at ≡ b → Meets room s at limit marked (cond b (Last limit) (ahead_by at (head_at s at limit marked room)))
+  meets_at : (b : Bool) → leb limit at ≡ b → Meets room s at limit marked (cond b None (item_of (head_at s at limit marked room)))
   meets_at true e = let l = leb-true limit at e in at-end room s at limit marked (omega (arith, r.order)) r.whole
   meets_at false e = meets-head room s at limit marked r (leb-false limit at e) (head_at s at limit marked room) refl
 
-  pub meets : (x : Ahead) → ahead_at room s at limit marked ≡ x → Meets room s at limit marked x
+  pub meets : (x : Option Header) → ahead_at room s at limit marked ≡ x → Meets room s at limit marked x
   unfolding ahead_at
   meets x e = subst (Meets room s at limit marked) e (meets_at (leb limit at) refl)
 

@@ -7,12 +7,12 @@ use Prim.Native.Nat.{ℕ, ◌+◌, ◌*◌, ◌≤◌}
 use native.Mathlib.Omega.{arith}
 use lib.ListN.{length, drop, length-append}
 use lib.Seq.{slice, sets, length-sets, sets-eq}
+use Rattle.std.specs.Prelude.{None}
 use Rattle.headers.specs.declared.Header.{Header}
 use Rattle.headers.specs.Head.{type_field}
 use Rattle.octets.specs.Walk.{past_of}
 use Rattle.laws.proofs.Tests.{cond-holds}
 use Rattle.normal.specs.declared.Measured.{Measured}
-use Rattle.normal.specs.declared.Ahead.TheVariants.{Last}
 use Rattle.normal.specs.Normal.{length_octets, coded}
 use Rattle.normal.specs.Passes.{RunEnds, ValueEnds, normal_from, normal_in, header_size, ValueMeasures, PutsOctets}
 use Rattle.normal.proofs.Lengths.{length-length}
@@ -55,8 +55,8 @@ module _ (room : ℕ) (s : List ℕ) (from limit : ℕ) (marked : Bool) (out₀ 
 
   module _ (at pos : ℕ) (out : List ℕ) (c : PutSoFar at pos out) where
     -- at the end of the run all is written
-    pub all-put : (past : ℕ) → Meets room s at limit marked (Last past) → PutsOctets out₀ begin (normal_from room s from limit marked) pos out
-    all-put past (e, f, g) = record {
+    pub all-put : Meets room s at limit marked None → PutsOctets out₀ begin (normal_from room s from limit marked) pos out
+    all-put (e, f) = record {
       to = sym (c.to ∙ ap (λ (l : List ℕ). pos + length l) f ∙ omega arith);
       written = sym (c.written ∙ ap (sets out pos) f);
     }

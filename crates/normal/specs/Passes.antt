@@ -1,19 +1,17 @@
 -- What the writer's passes over a stream whose walk ended meet, measure and write: the contracts of the functions inside this crate. What
 -- the writer answers and writes in all is in Writes, and needs none of it.
-use Rattle.std.specs.Prelude.{ℕ, ◌+◌, ◌-◌, ◌<◌, ◌≤◌, ◌≡◌, Bool, true, false, cond, List, leb, length}
+use Rattle.std.specs.Prelude.{ℕ, ◌+◌, ◌-◌, ◌<◌, ◌≤◌, ◌≡◌, Bool, true, false, cond, List, leb, length, Option, Some, None}
 use Rattle.std.proofs.Math.Seq.{slice}
 use Rattle.std.proofs.lemmas.List.Edits.{sets}
 use Rattle.headers.specs.declared.Header.{Header}
 use Rattle.headers.specs.declared.Head.{Head}
 use Rattle.headers.specs.declared.Head.TheVariants.{Item, ClosingMark, Refusal}
 use Rattle.headers.specs.Head.{constructed, type_field, head_at}
-use Rattle.octets.specs.Walk.{stream_limit, End, ends, stops, past_of, run}
+use Rattle.octets.specs.Walk.{stream_limit, deepest, End, ends, stops, past_of, run}
 use Rattle.octets.specs.Values.{value_of}
 use Rattle.tree.specs.Tree.{plain}
 use Rattle.tree.specs.Accepts.{Whole}
 use Rattle.normal.specs.declared.Measured.{Measured}
-use Rattle.normal.specs.declared.Ahead.{Ahead}
-use Rattle.normal.specs.declared.Ahead.TheVariants.{Item as Inner, Last}
 use Rattle.normal.specs.Normal.{further_octets, normal_of}
 
 -- The run from `from` was walked to its end, in a stream within the limit.
@@ -46,14 +44,14 @@ unfoldable pub normal_in : (room : ℕ) → List ℕ → Header → List ℕ
 normal_in room s h =
     cond (constructed h.code) (normal_from (room - 1) s h.start h.bound h.marked) (slice h.start h.bound s)
 
--- what a pass meets at `at`: an item, or the end of the run with the place past it
-abbrev pub ahead_by : (at : ℕ) → Head → Ahead
-ahead_by at (Item h) = Inner h
-ahead_by at ClosingMark = Last (at + 2)
-ahead_by at (Refusal number place) = Last at
+-- what a pass meets at `at`: an item, or none where the run ends
+abbrev pub item_of : Head → Option Header
+item_of (Item h) = Some h
+item_of ClosingMark = None
+item_of (Refusal number place) = None
 
-unfoldable pub ahead_at : (room : ℕ) → List ℕ → (at limit : ℕ) → (marked : Bool) → Ahead
-ahead_at room s at limit marked = cond (leb limit at) (Last limit) (ahead_by at (head_at s at limit marked room))
+unfoldable pub ahead_at : (room : ℕ) → List ℕ → (at limit : ℕ) → (marked : Bool) → Option Header
+ahead_at room s at limit marked = cond (leb limit at) None (item_of (head_at s at limit marked room))
 
 -- how many octets come before a value of so many in the normal form of an item: its type field and its length octets
 abbrev pub header_size : (code size : ℕ) → ℕ
@@ -68,6 +66,10 @@ pub record Measures (s : List ℕ) (from : ℕ) (marked : Bool) (how : End) (for
 
 abbrev pub RunMeasures : (room : ℕ) → List ℕ → (from limit : ℕ) → (marked : Bool) → Measured → Type 0
 RunMeasures room s from limit marked m = Measures s from marked (run room s from limit marked).how (normal_from room s from limit marked) m
+
+-- the whole stream, whose walk ended, was measured
+abbrev pub StreamMeasures : List ℕ → Measured → Type 0
+StreamMeasures s m = RunEnds deepest s 0 (length s) false × RunMeasures deepest s 0 (length s) false m
 
 -- Only a constructed value may not be its own normal form.
 pub record ValueMeasures (room : ℕ) (s : List ℕ) (h : Header) (m : Measured) : Type 0 where

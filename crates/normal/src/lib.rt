@@ -8,10 +8,10 @@ ghost use Rattle.headers.specs.Head.{type_field};
 ghost use Rattle.octets.specs.Walk.{stream_limit, deepest, run};
 ghost use Rattle.tree.specs.Accepts.{Whole};
 ghost use Rattle.normal.specs.Normal.{further_octets, number_octets, length_octets, Octets, normal_form};
-ghost use Rattle.normal.specs.Passes.{RunEnds, ValueEnds, normal_from, normal_in, ahead_at, header_size, RunMeasures, ValueMeasures, PutsOctets};
-ghost use Rattle.normal.specs.Writes.{answer_of, GivesAnswer};
+ghost use Rattle.normal.specs.Passes.{RunEnds, ValueEnds, normal_from, normal_in, ahead_at, header_size, RunMeasures, ValueMeasures, StreamMeasures, PutsOctets};
+ghost use Rattle.normal.specs.Writes.{answer_of, GivesAnswer, ShortWrites};
 
-use headers::{Head, Header};
+use headers::{Head, Header, Refusal};
 use octets::{DEEPEST, STREAM_LIMIT};
 
 mod mailroom; // mailroom.rt: the writer of the mailroom box
@@ -23,13 +23,6 @@ pub const TOO_LONG: usize = 17;
 
 pub const OUTPUT_TOO_SHORT: usize = 18;
 
-// What a pass over a run that was walked to its end meets at a place: an item, or the end of the run, with the place past it.
-#[derive(Clone, Copy)]
-enum Ahead {
-    Item(Header),
-    Last { past: usize },
-}
-
 // What is measured of a run, or of the value of an item: where it ends, how many octets its normal form has, and whether it is known that
 // its own octets are that.
 #[derive(Clone, Copy)]
@@ -37,13 +30,6 @@ struct Measured {
     next: usize,
     size: usize,
     shortest: bool,
-}
-
-// What the writer answers: how many octets it wrote, or a refusal, which leaves the output untouched.
-#[derive(Clone, Copy)]
-pub enum Answer {
-    Written { length: usize },
-    Refused { number: usize, place: usize },
 }
 
 // How many length octets follow the first: told by the leading zeros of the length.
@@ -71,9 +57,10 @@ fn put_digits(out: &mut [u8], at: usize, k: usize, n: u32)
     requires { at + k ≤ length out.old }
     ensures { out.new ≡ sets out.old at (number_octets k n) }
 {
-    if 0 < k {
-        put_digits(out, at, k - 1, n / 256);
-        out[at + (k - 1)] = (n % 256) as u8;
+    let mut left = n;
+    for i in (0..k).rev() {
+        out[at + i] = (left % 256) as u8;
+        left /= 256;
     }
 }
 
@@ -101,21 +88,17 @@ fn header_size(code: usize, size: usize) -> usize
     headers::field_size(code) + 1 + further_octets(size as u32)
 }
 
-// What stands at `at` in a run that was walked to its end.
-fn meet(s: &[u8], at: usize, limit: usize, marked: bool, room: usize) -> Ahead
+// The item at `at` in a run that was walked to its end; none where the run ends.
+fn meet(s: &[u8], at: usize, limit: usize, marked: bool, room: usize) -> Option<Header>
     requires { RunEnds room s.now at limit marked }
     ensures { result ≡ ahead_at room s.now at limit marked }
 {
     if limit <= at {
-        return Ahead::Last { past: limit };
+        return None;
     }
     match headers::passed_head(s, at, limit, marked, room) {
-        Head::Item(h) => Ahead::Item(h),
-        Head::ClosingMark => Ahead::Last { past: at + 2 },
-        Head::Refusal {
-            number: _,
-            place: _,
-        } => Ahead::Last { past: at },
+        Head::Item(h) => Some(h),
+        _ => None,
     }
 }
 
@@ -125,18 +108,7 @@ fn stays_shortest(shortest: bool, at: usize, h: Header, m: Measured, head: usize
     requires { at ≤ h.start }
     ensures { result ≡ true → (shortest ≡ true) × (h.marked ≡ false) × (m.shortest ≡ true) × (h.start ≡ at + head) }
 {
-    let marked = h.marked;
-    let start = h.start;
-    let own = m.shortest;
-    if marked {
-        return false;
-    }
-    if own {
-        if start - at == head {
-            return shortest;
-        }
-    }
-    false
+    shortest && !h.marked && m.shortest && h.start - at == head
 }
 
 // Measures the value of the item with the header h.
@@ -145,16 +117,12 @@ fn measure_item(s: &[u8], h: Header, room: usize) -> Measured
     requires { ValueEnds room s.now h }
     ensures { ValueMeasures room s.now h result }
 {
-    let code = h.code;
-    let start = h.start;
-    let bound = h.bound;
-    let marked = h.marked;
-    if code / 32 % 2 == 1 {
-        measure_run(s, start, bound, marked, room - 1)
+    if h.code / 32 % 2 == 1 {
+        measure_run(s, h.start, h.bound, h.marked, room - 1)
     } else {
         Measured {
-            next: bound,
-            size: bound - start,
+            next: h.bound,
+            size: h.bound - h.start,
             shortest: true,
         }
     }
@@ -169,21 +137,17 @@ fn measure_run(s: &[u8], from: usize, limit: usize, marked: bool, room: usize) -
     let mut at = from;
     let mut size: usize = 0;
     let mut shortest = true;
-    loop {
-        match meet(s, at, limit, marked, room) {
-            Ahead::Item(h) => {
-                let m = measure_item(s, h, room);
-                let head = header_size(h.code, m.size);
-                shortest = stays_shortest(shortest, at, h, m, head);
-                size = size + head + m.size;
-                at = m.next;
-            }
-            Ahead::Last { past } => return Measured {
-                next: past,
-                size,
-                shortest,
-            },
-        }
+    while let Some(h) = meet(s, at, limit, marked, room) {
+        let m = measure_item(s, h, room);
+        let head = header_size(h.code, m.size);
+        shortest = stays_shortest(shortest, at, h, m, head);
+        size = size + head + m.size;
+        at = m.next;
+    }
+    Measured {
+        next: if marked { at + 2 } else { at },
+        size,
+        shortest,
     }
 }
 
@@ -192,14 +156,9 @@ pub fn put_value(s: &[u8], start: usize, bound: usize, out: &mut [u8], begin: us
     requires { (start ≤ bound) × (bound ≤ length s.now) × (begin + (bound - start) ≤ length out.old) }
     ensures { PutsOctets out.old begin (slice start bound s.now) result out.new }
 {
-    let mut at = start;
-    let mut pos = begin;
-    while at < bound {
-        out[pos] = s[at];
-        at += 1;
-        pos += 1;
-    }
-    pos
+    let past = begin + (bound - start);
+    out[begin..past].copy_from_slice(&s[start..bound]);
+    past
 }
 
 // Writes a type field as it was read, and says the place past it.
@@ -235,15 +194,10 @@ fn put_item(s: &[u8], h: Header, m: Measured, room: usize, out: &mut [u8], begin
     requires { ValueEnds room s.now h × ValueMeasures room s.now h m × (begin + length (normal_in room s.now h) ≤ length out.old) }
     ensures { PutsOctets out.old begin (normal_in room s.now h) result out.new }
 {
-    let start = h.start;
-    let bound = h.bound;
-    let marked = h.marked;
-    let size = m.size;
-    let shortest = m.shortest;
-    if shortest {
-        put_value(s, start, start + size, out, begin)
+    if m.shortest {
+        put_value(s, h.start, h.start + m.size, out, begin)
     } else {
-        put_run(s, start, bound, marked, room - 1, out, begin)
+        put_run(s, h.start, h.bound, h.marked, room - 1, out, begin)
     }
 }
 
@@ -263,44 +217,55 @@ fn put_run(
 {
     let mut at = from;
     let mut pos = begin;
-    loop {
-        match meet(s, at, limit, marked, room) {
-            Ahead::Item(h) => {
-                let m = measure_item(s, h, room);
-                let past = put_header(out, pos, h.code, m.size);
-                pos = put_item(s, h, m, room, out, past);
-                at = m.next;
-            }
-            Ahead::Last { past: _ } => return pos,
-        }
+    while let Some(h) = meet(s, at, limit, marked, room) {
+        let m = measure_item(s, h, room);
+        let past = put_header(out, pos, h.code, m.size);
+        pos = put_item(s, h, m, room, out, past);
+        at = m.next;
     }
+    pos
 }
 
-// Writes the normal form of a stream whose walk ended: refusals 17 and 18 alone. A caller that has other refusals to give has given them.
-pub fn write(s: &[u8], out: &mut [u8]) -> Answer
+// Measures a stream whose walk ended.
+fn measure(s: &[u8]) -> Measured
     requires { (length s.now ≤ stream_limit) × Whole (run deepest s.now 0 (length s.now) false).how }
-    ensures { GivesAnswer (answer_of (normal_form s.now) out.old) (normal_form s.now) out.old result
-        out.new }
+    ensures { StreamMeasures s.now result }
 {
-    let m = measure_run(s, 0, s.len(), false, DEEPEST);
+    measure_run(s, 0, s.len(), false, DEEPEST)
+}
+
+// Writes the normal form of a stream that was measured as m: refusal 18 alone.
+fn write_measured(s: &[u8], m: Measured, out: &mut [u8]) -> Result<usize, Refusal>
+    requires { StreamMeasures s.now m }
+    ensures { ShortWrites s.now out.old result out.new }
+{
     let length = m.size;
-    let shortest = m.shortest;
-    if STREAM_LIMIT < length {
-        return Answer::Refused {
-            number: TOO_LONG,
-            place: 0,
-        };
-    }
     if out.len() < length {
-        return Answer::Refused {
+        return Err(Refusal {
             number: OUTPUT_TOO_SHORT,
             place: 0,
-        };
+        });
     }
-    if shortest {
+    if m.shortest {
         put_value(s, 0, length, out, 0);
     } else {
         put_run(s, 0, s.len(), false, DEEPEST, out, 0);
     }
-    Answer::Written { length }
+    Ok(length)
+}
+
+// Writes the normal form of a stream whose walk ended: refusals 17 and 18 alone. A caller that has other refusals to give has given them.
+pub fn write(s: &[u8], out: &mut [u8]) -> Result<usize, Refusal>
+    requires { (length s.now ≤ stream_limit) × Whole (run deepest s.now 0 (length s.now) false).how }
+    ensures { GivesAnswer (answer_of (normal_form s.now) out.old) (normal_form s.now) out.old result
+        out.new }
+{
+    let m = measure(s);
+    if STREAM_LIMIT < m.size {
+        return Err(Refusal {
+            number: TOO_LONG,
+            place: 0,
+        });
+    }
+    write_measured(s, m, out)
 }

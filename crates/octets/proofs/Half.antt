@@ -5,7 +5,7 @@ use Prim.Native.Nat.{ℕ, ◌+◌, ◌≤◌}
 use native.Mathlib.Omega.{arith}
 use lib.Dec.{leb}
 use lib.ListN.{length}
-use Rattle.octets.specs.declared.Outcome.{Outcome}
+use Rattle.octets.specs.Told.{Outcome}
 use Rattle.octets.specs.Walk.{count, End, ends, stops, run, outcome_of, walk_of}
 use Rattle.octets.specs.Told.{told}
 use Rattle.laws.proofs.Tests.{cond-holds}

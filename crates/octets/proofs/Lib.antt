@@ -1,3 +1,4 @@
+pub mod Told
 pub mod Walks
 pub mod Turns
 pub mod Ones

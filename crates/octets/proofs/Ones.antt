@@ -8,7 +8,7 @@ use borrow.Author.Tests.{le-leb, lt-leb}
 use Rattle.headers.specs.declared.Header.{Header}
 use Rattle.headers.specs.declared.Head.{Head}
 use Rattle.headers.specs.declared.Head.TheVariants.{Item, ClosingMark, Refusal}
-use Rattle.octets.specs.declared.Outcome.TheVariants.{Ended, Refused}
+use Rattle.octets.specs.Told.{ended as walk_ended, refused}
 use Rattle.headers.specs.Head.{head_at}
 use Rattle.octets.specs.Walk.{ended, on_head, run, answer}
 use Rattle.octets.specs.Further.{one_of}
@@ -16,7 +16,7 @@ use Rattle.octets.specs.Values.{value_of}
 use Rattle.octets.proofs.Turns.{follow-passes, follow-breaks}
 
 module _ (room : ℕ) (s : List ℕ) (at limit : ℕ) where
-  pub one-ends : limit ≤ at → answer (one_of room s at limit) ≡ Ended limit 0
+  pub one-ends : limit ≤ at → answer (one_of room s at limit) ≡ walk_ended limit 0
   unfolding one_of
   one-ends l = simp (le-leb limit at l)
 
@@ -26,22 +26,22 @@ module _ (room : ℕ) (s : List ℕ) (at limit : ℕ) where
     unfolding one_of
     one-head head e = rw (lt-leb _ _ l, e)
 
-    pub one-closes : head_at s at limit false room ≡ ClosingMark → answer (one_of room s at limit) ≡ Ended (at + 2) 0
+    pub one-closes : head_at s at limit false room ≡ ClosingMark → answer (one_of room s at limit) ≡ walk_ended (at + 2) 0
     one-closes e = ap answer (one-head ClosingMark e)
 
-    pub one-refuses : (number place : ℕ) → head_at s at limit false room ≡ Refusal number place → answer (one_of room s at limit) ≡ Refused number place 0
+    pub one-refuses : (number place : ℕ) → head_at s at limit false room ≡ Refusal number place → answer (one_of room s at limit) ≡ refused number place 0
     one-refuses number place e = ap answer (one-head (Refusal number place) e)
 
-    pub one_passes : (h : Header) → head_at s at limit false room ≡ Item h → (next k : ℕ) → answer (value_of room s h) ≡ Ended next k
-        → answer (one_of room s at limit) ≡ Ended next (k + 1)
+    pub one_passes : (h : Header) → head_at s at limit false room ≡ Item h → (next k : ℕ) → answer (value_of room s h) ≡ walk_ended next k
+        → answer (one_of room s at limit) ≡ walk_ended next (k + 1)
     unfolding value_of
     one_passes h e next k p =
         ap answer (one-head (Item h) e)
         ∙ follow-passes at h (value_of room s h).items (value_of room s h).how (λ n. ended n) next k p
-        ∙ ap (Ended next) (omega arith)
+        ∙ ap (walk_ended next) (omega arith)
 
-    pub one-breaks : (h : Header) → head_at s at limit false room ≡ Item h → (number place k : ℕ) → answer (value_of room s h) ≡ Refused number place k
-        → answer (one_of room s at limit) ≡ Refused number place (k + 1)
+    pub one-breaks : (h : Header) → head_at s at limit false room ≡ Item h → (number place k : ℕ) → answer (value_of room s h) ≡ refused number place k
+        → answer (one_of room s at limit) ≡ refused number place (k + 1)
     unfolding value_of
     one-breaks h e number place k p =
         ap answer (one-head (Item h) e) ∙ follow-breaks at h (value_of room s h).items (value_of room s h).how (λ n. ended n) number place k p

@@ -1,8 +1,7 @@
 -- More of the walk: one item alone, by which the first date is defined (W-206).
-use Rattle.std.specs.Prelude.{ℕ, ◌+◌, ◌-◌, false, List, leb}
+use Rattle.std.specs.Prelude.{ℕ, ◌+◌, ◌-◌, false, List, leb, Ok, Err}
 use Rattle.headers.specs.Head.{head_at}
-use Rattle.octets.specs.declared.Outcome.{Outcome}
-use Rattle.octets.specs.declared.Outcome.TheVariants.{Ended, Refused}
+use Rattle.octets.specs.Told.{Outcome}
 use Rattle.octets.specs.Walk.{Walked, run, step, ended}
 
 -- the item at `at` alone, with nothing walked after it
@@ -14,5 +13,5 @@ one_of room s at limit =
 
 -- an outcome with n headers more, which were passed before
 abbrev pub plus : ℕ → Outcome → Outcome
-plus n (Ended at k) = Ended at (n + k)
-plus n (Refused number place k) = Refused number place (n + k)
+plus n (Ok e) = Ok (record { at = e.at; count = n + e.count })
+plus n (Err r) = Err (record { number = r.number; place = r.place; count = n + r.count })

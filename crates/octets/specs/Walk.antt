@@ -1,12 +1,11 @@
 -- The walk of a stream: the items whose headers passed, and how the walk ended. Document 01, "Octet rules" and "Numbers given back".
 -- Items have places, and values are bounded, not copied; what they stand for, with no places, is a tree of another crate.
-use Rattle.std.specs.Prelude.{ℕ, suc, ◌+◌, ◌-◌, zero, Bool, cond, true, false, List, length, leb}
+use Rattle.std.specs.Prelude.{ℕ, suc, ◌+◌, ◌-◌, zero, Bool, cond, true, false, List, length, leb, Ok}
 use Rattle.headers.specs.declared.Header.{Header}
 use Rattle.headers.specs.declared.Head.{Head}
 use Rattle.headers.specs.declared.Head.TheVariants.{Item, ClosingMark, Refusal}
 use Rattle.headers.specs.Head.{constructed, head_at}
-use Rattle.octets.specs.declared.Outcome.{Outcome}
-use Rattle.octets.specs.declared.Outcome.TheVariants.{Ended, Refused}
+use Rattle.octets.specs.Told.{Outcome, refused}
 
 -- "An item is a header with a value; a constructed value is a run of items, each with a value of its own." A run is none, or an
 -- item with its place, the code of its type field, its value from start to past, the run inside it (none in a primitive) and the
@@ -90,15 +89,15 @@ run room s at limit marked = run_for (suc (limit - at)) room s at limit marked
 
 -- "the header count is the number of items that passed 2 to 8": the count of the items that were walked
 abbrev pub outcome_of : ℕ → End → Outcome
-outcome_of n (ends at) = Ended at n
-outcome_of n (stops number place) = Refused number place n
+outcome_of n (ends at) = Ok (record { at = at; count = n })
+outcome_of n (stops number place) = refused number place n
 
 abbrev pub answer : Walked → Outcome
 answer w = outcome_of (count w.items) w.how
 
 -- "Refusal 1 comes first. Then the whole stream is walked for 2 to 8". After 1 the count is 0.
 unfoldable pub walk_of : List ℕ → Outcome
-walk_of s = cond (leb (length s) stream_limit) (answer (run deepest s 0 (length s) false)) (Refused 1 0 0)
+walk_of s = cond (leb (length s) stream_limit) (answer (run deepest s 0 (length s) false)) (refused 1 0 0)
 
 -- where the first item of a run stands: at end if there is none
 abbrev pub start_of : (end : ℕ) → Items → ℕ

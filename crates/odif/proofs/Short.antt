@@ -11,9 +11,8 @@ use borrow.Table.Steps.{cases}
 use Rattle.octets.specs.Walk.{stream_limit}
 use Rattle.tree.specs.Tree.{tree_of}
 use Rattle.tree.proofs.Meaning.{means}
-use Rattle.normal.specs.declared.Answer.{Answer}
 use Rattle.normal.specs.Normal.{normal_form}
-use Rattle.normal.specs.Writes.{output_of, answer_short}
+use Rattle.normal.specs.Writes.{Answer, output_of, answer_short}
 use Rattle.normal.specs.Short.{short_limit}
 use Rattle.normal.proofs.Normals.{small}
 use Rattle.elements.specs.declared.Edition.{Edition}

@@ -12,9 +12,8 @@ use borrow.Table.Steps.{cases}
 use Rattle.octets.specs.Walk.{stream_limit, deepest, run}
 use Rattle.tree.specs.Accepts.{Whole}
 use Rattle.tree.proofs.Meaning.{whole_of}
-use Rattle.normal.specs.declared.Answer.{Answer}
 use Rattle.normal.specs.Normal.{normal_form}
-use Rattle.normal.specs.Writes.{answer_of, output_of}
+use Rattle.normal.specs.Writes.{Answer, answer_of, output_of}
 use Rattle.elements.specs.declared.Edition.{Edition}
 use Rattle.answers.specs.declared.Written.{Written}
 use Rattle.answers.specs.declared.Reason.{Reason}

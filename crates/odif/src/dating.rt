@@ -27,9 +27,8 @@ pub fn dated(edition: Edition, stream: &[u8]) -> Dated
 fn find_date(edition: Edition, stream: &[u8]) -> Dated
     ensures { DateTells edition stream.now result }
 {
-    let refused = refused_by(edition, stream);
-    if refused.number != 0 {
-        return answers::refused_date(refused.number, refused.place);
+    if let Err(why) = refused_by(edition, stream) {
+        return answers::refused_date(why.number, why.place);
     }
     answers::date_of_letter(stream)
 }

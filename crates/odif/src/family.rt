@@ -15,7 +15,6 @@ pub fn children(
     ensures { ChildrenOutcome edition stream.now table.old row list.old result table.new
         list.new }
 {
-    let mut octets = [0u8; 0];
     let room = list.len();
     let told = scratch::ask(
         edition,
@@ -23,12 +22,7 @@ pub fn children(
         Question::Children { row, room },
         table,
         list,
-        &mut octets,
+        &mut [],
     );
-    Related {
-        number: told.number,
-        place: told.place,
-        elements: told.elements,
-        children: told.listed,
-    }
+    Related::from(told)
 }

@@ -11,19 +11,13 @@ pub use order::Ordered;
 pub fn order(edition: Edition, stream: &[u8], class: Class) -> Ordered
     ensures { OrderIs edition class stream.now result }
 {
-    let mut rows = [0u32; 0];
-    let mut numbers = [0u32; 0];
-    let mut octets = [0u8; 0];
     let told = scratch::ask(
         edition,
         stream,
         Question::Order { class },
-        &mut rows,
-        &mut numbers,
-        &mut octets,
+        &mut [],
+        &mut [],
+        &mut [],
     );
-    Ordered {
-        number: told.number,
-        place: told.place,
-    }
+    Ordered::from(told)
 }

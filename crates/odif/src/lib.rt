@@ -4,8 +4,8 @@
 
 ghost use Rattle.std.specs.Prelude.{◌≡◌, ◌≤◌};
 ghost use Rattle.octets.specs.Walk.{stream_limit};
-ghost use Rattle.answers.specs.Asking.{written_as};
-ghost use Rattle.answers.specs.Answers.{ruled, CheckOutcome, NormalOutcome, ListOutcome, PartOutcome, WhyOutcome, LocatedOutcome, Stands, JoinedOutcome};
+ghost use Rattle.answers.specs.Asking.{written_as, RulesSay};
+ghost use Rattle.answers.specs.Answers.{CheckOutcome, NormalOutcome, ListOutcome, PartOutcome, WhyOutcome, LocatedOutcome, Stands, JoinedOutcome};
 
 use answers::Question;
 pub use answers::{
@@ -13,7 +13,7 @@ pub use answers::{
 };
 pub use characters::Shown;
 pub use elements::Edition;
-use normal::Answer;
+use headers::Refusal;
 pub use order::{Class, Ordered};
 pub use reading::{Match, Side};
 
@@ -39,53 +39,45 @@ pub use side_text::text;
 pub fn check(edition: Edition, stream: &[u8], table: &mut [u32]) -> Checked
     ensures { CheckOutcome edition stream.now table.old result table.new }
 {
-    let mut numbers = [0u32; 0];
-    let mut octets = [0u8; 0];
-    let told = scratch::ask(
-        edition,
-        stream,
-        Question::Check,
-        table,
-        &mut numbers,
-        &mut octets,
-    );
-    Checked {
-        number: told.number,
-        place: told.place,
-        headers: told.headers,
-        elements: told.elements,
-    }
+    let told = scratch::ask(edition, stream, Question::Check, table, &mut [], &mut []);
+    Checked::from(told)
 }
 
 // Writes the normal form of a stream. The archive asks this, and keeps what is written.
 pub fn normal(edition: Edition, stream: &[u8], out: &mut [u8]) -> Written
     ensures { NormalOutcome edition stream.now out.old result out.new }
 {
-    let refused = refused_by(edition, stream);
-    if refused.number != 0 {
-        return Written {
-            number: refused.number,
-            place: refused.place,
-            length: 0,
-        };
+    if let Err(why) = refused_by(edition, stream) {
+        return unwritten(why);
     }
     written_as(normal::write(stream, out))
 }
 
+// A refusal as the writer tells it: nothing is written.
+fn unwritten(why: Reason) -> Written
+    ensures { result ≡ record { number = why.number; place = why.place; length = 0 } }
+{
+    Written {
+        number: why.number,
+        place: why.place,
+        length: 0,
+    }
+}
+
 // The writer's answer as it is told: 17, 18, or no refusal and a length that no stream passes.
-fn written_as(answer: Answer) -> Written
+fn written_as(answer: Result<usize, Refusal>) -> Written
     requires { ((written_as answer).number ≤ 18) × (((written_as answer).place ≤ 0) × ((written_as answer).length ≤ stream_limit)) }
     ensures { result ≡ written_as answer }
 {
     match answer {
-        Answer::Written { length } => Written {
+        Ok(length) => Written {
             number: 0,
             place: 0,
             length: length as u32,
         },
-        Answer::Refused { number, place } => Written {
-            number: number as u32,
-            place: place as u32,
+        Err(refusal) => Written {
+            number: refusal.number as u32,
+            place: refusal.place as u32,
             length: 0,
         },
     }
@@ -101,11 +93,7 @@ pub fn list(
 ) -> Listed
     ensures { ListOutcome edition side stream.now table.old list.old result table.new list.new }
 {
-    let walked = octets::walk(stream);
-    if scratch::needs_few(stream, walked) {
-        return scratch::list_few(edition, stream, walked, side, table, list);
-    }
-    scratch::list_many(edition, stream, walked, side, table, list)
+    scratch::list_side(edition, stream, side, table, list)
 }
 
 // The content of a text unit: a part of the caller's own stream, and an empty part if the stream or the element is refused, the content is in
@@ -142,23 +130,15 @@ pub fn bounds(edition: Edition, stream: &[u8], element: usize) -> Found
 fn locate(edition: Edition, stream: &[u8], element: usize) -> Found
     ensures { LocatedOutcome edition stream.now element result × Stands edition stream.now element result.first result.past }
 {
-    let mut rows = [0u32; 0];
-    let mut numbers = [0u32; 0];
-    let mut octets = [0u8; 0];
     let found = scratch::ask(
         edition,
         stream,
         Question::Content { element },
-        &mut rows,
-        &mut numbers,
-        &mut octets,
+        &mut [],
+        &mut [],
+        &mut [],
     );
-    Found {
-        number: found.number,
-        place: found.place,
-        first: found.first,
-        past: found.past,
-    }
+    Found::from(found)
 }
 
 // Copies the content of a text unit, its pieces joined in order, to a lent buffer. The viewer asks this where the content may be in pieces;
@@ -166,40 +146,27 @@ fn locate(edition: Edition, stream: &[u8], element: usize) -> Found
 pub fn joined(edition: Edition, stream: &[u8], element: usize, out: &mut [u8]) -> Copied
     ensures { JoinedOutcome edition stream.now element out.old result out.new }
 {
-    let mut rows = [0u32; 0];
-    let mut numbers = [0u32; 0];
     let put = scratch::ask(
         edition,
         stream,
         Question::Joined { element },
-        &mut rows,
-        &mut numbers,
+        &mut [],
+        &mut [],
         out,
     );
-    Copied {
-        number: put.number,
-        place: put.place,
-        length: put.length,
-    }
+    Copied::from(put)
 }
 
-// Why rules 1 to 15 refuse a stream: 0 at 0 if they don't.
-fn refused_by(edition: Edition, stream: &[u8]) -> Reason
-    ensures { result ≡ ruled edition stream.now }
+// Whether rules 1 to 15 accept a stream, or why not.
+fn refused_by(edition: Edition, stream: &[u8]) -> Result<(), Reason>
+    ensures { RulesSay edition stream.now result }
 {
-    let mut rows = [0u32; 0];
-    let mut numbers = [0u32; 0];
-    let mut octets = [0u8; 0];
-    let told = scratch::ask(
-        edition,
-        stream,
-        Question::Rules,
-        &mut rows,
-        &mut numbers,
-        &mut octets,
-    );
-    Reason {
+    let told = scratch::ask(edition, stream, Question::Rules, &mut [], &mut [], &mut []);
+    if told.number == 0 {
+        return Ok(());
+    }
+    Err(Reason {
         number: told.number,
         place: told.place,
-    }
+    })
 }

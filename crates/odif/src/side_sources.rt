@@ -9,9 +9,5 @@ use super::{Edition, Side, Sourced};
 pub fn sources(edition: Edition, stream: &[u8], side: Side, list: &mut [u32]) -> Sourced
     ensures { SourcesOutcome edition side stream.now list.old result list.new }
 {
-    let walked = octets::walk(stream);
-    if scratch::needs_few(stream, walked) {
-        return scratch::sources_few(edition, stream, walked, side, list);
-    }
-    scratch::sources_many(edition, stream, walked, side, list)
+    scratch::sources_of_side(edition, stream, side, list)
 }

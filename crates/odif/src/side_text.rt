@@ -16,9 +16,5 @@ pub fn text(
     ensures { TextOutcome edition side stream.now table.old lines.old out.old result table.new
         lines.new out.new }
 {
-    let walked = octets::walk(stream);
-    if scratch::needs_few(stream, walked) {
-        return scratch::text_few(edition, stream, walked, side, table, lines, out);
-    }
-    scratch::text_many(edition, stream, walked, side, table, lines, out)
+    scratch::text_of_side(edition, stream, side, table, lines, out)
 }

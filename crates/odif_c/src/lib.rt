@@ -1,6 +1,7 @@
 // The names for C, as include/odif.h declares them, and nothing else: `rt staticlib` makes the archive of this crate. Each puts one question of
 // crate `odif`, with its contract, of the edition of 1988, and its twin of that of 1993. A slice is a pointer and a length; a null pointer with
 // length 0 is fine. The names of the base are here, those of questions that were asked for later each in a file, as in `odif`.
+// The twins are the C interface: a name for each edition, so they are not one function.
 #![tactic(auto)]
 
 ghost use Rattle.answers.specs.Answers.{CheckOutcome, NormalOutcome, ListOutcome, LocatedOutcome, JoinedOutcome};

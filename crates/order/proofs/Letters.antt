@@ -1,4 +1,5 @@
 -- Of the elements of every accepted stream the order is as promised; and the profile alone is in both orders.
+use Rattle.std.specs.Prelude.{Option, None, Some, Ok, Err}
 use mathlib.Core.Path.{◌≡◌, refl, ap, sym, ◌∙◌, subst}
 use mathlib.Core.Logic.{◌⊎◌, inl, inr}
 use mathlib.Core.List.Memᴰ
@@ -8,8 +9,7 @@ use Prim.Native.Nat.{ℕ, ◌<◌}
 use native.Mathlib.Omega.{arith}
 use lib.ListN.{length}
 use borrow.Author.Tests.{eq-eqb, lt-ltb, le-ltb}
-use Rattle.octets.specs.declared.Outcome.{Outcome}
-use Rattle.octets.specs.declared.Outcome.TheVariants.{Ended, Refused}
+use Rattle.octets.specs.Told.{Outcome}
 use Rattle.octets.specs.Walk.{walk_of}
 use Rattle.tree.specs.Tree.{Tree, tree_of}
 use Rattle.elements.specs.declared.Edition.{Edition}
@@ -20,8 +20,6 @@ use Rattle.reading.specs.declared.Side.{Side}
 use Rattle.reading.specs.Match.{matches}
 use Rattle.order.specs.declared.Class.{Class}
 use Rattle.order.specs.declared.Class.TheVariants.{A, B}
-use Rattle.order.specs.declared.Fault.{Fault}
-use Rattle.order.specs.declared.Fault.TheVariants.{Nowhere, At}
 use Rattle.order.specs.declared.Ordered.{Ordered}
 use Rattle.order.specs.Represents.{◌∈◌, all_represented, profile_kind, FitAside, LimitsAside}
 use Rattle.order.specs.Begins.{InOrder, FaultAt}
@@ -53,10 +51,10 @@ computed-aside class elements a =
       pass_exactly = pass_exactly class elements a;
     }
 
-one-or-other : (class : Class) (elements : List Element) → LimitsAside elements → (f : Fault) → fault_of class elements ≡ f
+one-or-other : (class : Class) (elements : List Element) → LimitsAside elements → (f : Option ℕ) → fault_of class elements ≡ f
     → InOrder class elements ⊎ ((n : ℕ) × FaultAt class elements n)
-one-or-other class elements a Nowhere p = inl ((in_order_exactly class elements a).0 p)
-one-or-other class elements a (At n) p = inr (n, (fault_exactly class elements a n).0 p)
+one-or-other class elements a None p = inl ((in_order_exactly class elements a).0 p)
+one-or-other class elements a (Some n) p = inr (n, (fault_exactly class elements a n).0 p)
 
 -- kinds, identifiers' being there, portion counts and matches tell the fault
 pub told_by_matches : (class : Class) (es fs : List Element) → LimitsAside es → LimitsAside fs → map look es ≡ map look fs
@@ -93,10 +91,10 @@ order-of-letter edition t elements judged class = order-aside class elements (ju
 -- the letter that a stream is was accepted by the judge
 letter-judged : (edition : Edition) (s : List ℕ) (o : Outcome) (headers : ℕ) (elements : List Element) → by_walk edition s o ≡ letter headers elements
     → judge edition (tree_of s) ≡ accepted elements
-letter-judged edition s (Refused number place k) headers elements e = let z : ◌≡◌ {A = ℕ} 0 1 = cc in absurd (omega arith)
-letter-judged edition s (Ended at k) headers elements e = by-judge (judge edition (tree_of s)) e
+letter-judged edition s (Err r) headers elements e = let z : ◌≡◌ {A = ℕ} 0 1 = cc in absurd (omega arith)
+letter-judged edition s (Ok passed) headers elements e = by-judge (judge edition (tree_of s)) e
   where
-    by-judge : (j : Judged) → after_walk (items_of_stream s) k j ≡ letter headers elements → j ≡ accepted elements
+    by-judge : (j : Judged) → after_walk (items_of_stream s) passed.count j ≡ letter headers elements → j ≡ accepted elements
     by-judge (accepted found) e = let b : found ≡ elements = cc in ap accepted b
     by-judge (refused number element) e = let z : ◌≡◌ {A = ℕ} 0 1 = cc in absurd (omega arith)
 
@@ -105,10 +103,10 @@ module _ (edition : Edition) (class : Class) (s : List ℕ) where
   unfolding letter_in
   aside headers elements e = judged-aside edition (tree_of s) elements (letter-judged edition s (walk_of s) headers elements e)
 
-  by-fault : (headers : ℕ) (elements : List Element) → letter_in edition s ≡ letter headers elements → (f : Fault) → fault_of class elements ≡ f
+  by-fault : (headers : ℕ) (elements : List Element) → letter_in edition s ≡ letter headers elements → (f : Option ℕ) → fault_of class elements ≡ f
       → OrderIs edition class s (by_found s elements f)
-  by-fault headers elements e Nowhere p = in_order e ((in_order_exactly class elements (aside headers elements e)).0 p)
-  by-fault headers elements e (At n) p = out_of_order e ((fault_exactly class elements (aside headers elements e) n).0 p)
+  by-fault headers elements e None p = in_order e ((in_order_exactly class elements (aside headers elements e)).0 p)
+  by-fault headers elements e (Some n) p = out_of_order e ((fault_exactly class elements (aside headers elements e) n).0 p)
 
   by-letter : (l : Letter) → letter_in edition s ≡ l → OrderIs edition class s (by_letter class s l)
   by-letter (refusal number place headers) e = by_rule e
@@ -119,7 +117,7 @@ module _ (edition : Edition) (class : Class) (s : List ℕ) where
   unfolding order_in
   computed-is = by-letter (letter_in edition s) refl
 
-  by-found : (headers : ℕ) (elements : List Element) → letter_in edition s ≡ letter headers elements → (f : Fault) → fault_of class elements ≡ f
+  by-found : (headers : ℕ) (elements : List Element) → letter_in edition s ≡ letter headers elements → (f : Option ℕ) → fault_of class elements ≡ f
       → by_found s elements f ≡ order_in edition class s
   unfolding order_in
   by-found headers elements e f p = rw (e, p)
@@ -127,8 +125,8 @@ module _ (edition : Edition) (class : Class) (s : List ℕ) where
   pub is-computed : (r : Ordered) → OrderIs edition class s r → r ≡ order_in edition class s
   unfolding order_in
   is-computed r (by_rule e) = rw e
-  is-computed r (in_order {headers} {elements} e o) = by-found headers elements e Nowhere ((in_order_exactly class elements (aside headers elements e)).1 o)
-  is-computed r (out_of_order {headers} {n} {elements} e f) = by-found headers elements e (At n)
+  is-computed r (in_order {headers} {elements} e o) = by-found headers elements e None ((in_order_exactly class elements (aside headers elements e)).1 o)
+  is-computed r (out_of_order {headers} {n} {elements} e f) = by-found headers elements e (Some n)
       ((fault_exactly class elements (aside headers elements e) n).1 f)
 
   -- what is answered of a stream is as promised

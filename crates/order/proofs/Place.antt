@@ -1,4 +1,5 @@
 -- The place of 26: it is determined, it is there exactly when the elements are not in order, and it is what is computed.
+use Rattle.std.specs.Prelude.{Option, None, Some}
 use mathlib.Core.Path.{◌≡◌, refl, ap, sym, ◌∙◌, subst}
 use mathlib.Core.Logic.{◌⊎◌, inl, inr, ◌↔◌}
 use mathlib.Core.Bool.{Bool, true, false, true≢false}
@@ -15,8 +16,6 @@ use Rattle.order.specs.Represents.{NoClash, LimitsAside}
 use Rattle.order.specs.declared.Class.{Class}
 use Rattle.order.specs.declared.Class.TheVariants.{A, B}
 use Rattle.order.specs.Begins.{InOrder, Begins, FaultAt}
-use Rattle.order.specs.declared.Fault.{Fault}
-use Rattle.order.specs.declared.Fault.TheVariants.{Nowhere, At}
 use Rattle.order.specs.Fault.{begins, ordered, fault_from, fault_of}
 use Rattle.order.proofs.Fronts.{begins-front, whole-begins}
 use Rattle.order.proofs.OrderA as OfA
@@ -82,9 +81,9 @@ take-through [] x xs = refl
 take-through (y ∷ front) x xs = ap (λ (l : List Element). y ∷ l) (take-through front x xs)
 
 -- what is found, after a front all of whose fronts begin
-abbrev Tells : Class → List Element → Fault → Type 0
-Tells class elements Nowhere = InOrder class elements
-Tells class elements (At n) = FaultAt class elements n
+abbrev Tells : Class → List Element → Option ℕ → Type 0
+Tells class elements None = InOrder class elements
+Tells class elements (Some n) = FaultAt class elements n
 
 module _ (class : Class) where
   tells-from : (front rest : List Element) → LimitsAside (front ++ rest) → ((k : ℕ) → k < length front → Begins class (take (suc k) (front ++ rest)))
@@ -133,20 +132,20 @@ module _ (class : Class) where
   pub found-tells : (elements : List Element) → LimitsAside elements → Tells class elements (fault_of class elements)
   found-tells elements a = tells-from [] elements a (λ k l. absurd (omega arith))
 
-  found-told : (elements : List Element) → LimitsAside elements → (f : Fault) → fault_of class elements ≡ f → Tells class elements f
+  found-told : (elements : List Element) → LimitsAside elements → (f : Option ℕ) → fault_of class elements ≡ f → Tells class elements f
   found-told elements a f e = subst (Tells class elements) e (found-tells elements a)
 
   -- 26 at a place exactly when that is the place, and in order exactly when it is
-  pub fault_exactly : (elements : List Element) → LimitsAside elements → (n : ℕ) → (fault_of class elements ≡ At n) ↔ FaultAt class elements n
-  fault_exactly elements a n = (found-told elements a (At n), λ f. from (fault_of class elements) (found-tells elements a) f)
+  pub fault_exactly : (elements : List Element) → LimitsAside elements → (n : ℕ) → (fault_of class elements ≡ Some n) ↔ FaultAt class elements n
+  fault_exactly elements a n = (found-told elements a (Some n), λ f. from (fault_of class elements) (found-tells elements a) f)
     where
-      from : (g : Fault) → Tells class elements g → FaultAt class elements n → g ≡ At n
-      from Nowhere o f = absurd (in-order-none class elements a o n f)
-      from (At m) h f = ap At (place-determined class elements m n h f)
+      from : (g : Option ℕ) → Tells class elements g → FaultAt class elements n → g ≡ Some n
+      from None o f = absurd (in-order-none class elements a o n f)
+      from (Some m) h f = ap Some (place-determined class elements m n h f)
 
-  pub in_order_exactly : (elements : List Element) → LimitsAside elements → (fault_of class elements ≡ Nowhere) ↔ InOrder class elements
-  in_order_exactly elements a = (found-told elements a Nowhere, λ o. from (fault_of class elements) (found-tells elements a) o)
+  pub in_order_exactly : (elements : List Element) → LimitsAside elements → (fault_of class elements ≡ None) ↔ InOrder class elements
+  in_order_exactly elements a = (found-told elements a None, λ o. from (fault_of class elements) (found-tells elements a) o)
     where
-      from : (g : Fault) → Tells class elements g → InOrder class elements → g ≡ Nowhere
-      from Nowhere p o = refl
-      from (At m) h o = absurd (in-order-none class elements a o m h)
+      from : (g : Option ℕ) → Tells class elements g → InOrder class elements → g ≡ None
+      from None p o = refl
+      from (Some m) h o = absurd (in-order-none class elements a o m h)

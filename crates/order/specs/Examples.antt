@@ -1,18 +1,16 @@
 -- The vectors: elements as the reader hands them on, and where each order fails, by the element's number; docs/ORDER.md speaks of some.
-use Rattle.std.specs.Prelude.{ℕ, ◌+◌, List, [], ◌∷◌}
+use Rattle.std.specs.Prelude.{ℕ, ◌+◌, List, [], ◌∷◌, Option, None, Some}
 use Rattle.names.specs.Names.{space_byte}
 use Rattle.contents.specs.Search.{Value, absent, octets}
 use Rattle.elements.specs.Judge.{Element, no_type, single}
-use Rattle.order.specs.declared.Fault.{Fault}
-use Rattle.order.specs.declared.Fault.TheVariants.{Nowhere, At}
 
 -- elements, and what is found of them by class A and by class B
 pub record Example : Type 0 where
-  pub a : Fault
-  pub b : Fault
+  pub a : Option ℕ
+  pub b : Option ℕ
   pub elements : List Element
 
-abbrev pub found : (a b : Fault) → List Element → Example
+abbrev pub found : (a b : Option ℕ) → List Element → Example
 found a b elements = record { a = a; b = b; elements = elements }
 
 -- an identifier of digits
@@ -61,66 +59,66 @@ two = lister 2 (name (1 ∷ 0 ∷ [])) (spelling (0 ∷ []) ∷ spelling (1 ∷ 
 abbrev pub examples : List Example
 examples =
     -- the profile alone
-    found Nowhere Nowhere (other 0 ∷ [])
+    found None None (other 0 ∷ [])
     -- a block, its unit
-    ∷ found Nowhere Nowhere (other 0 ∷ lists 2 1 0 ∷ of_layout 1 0 ∷ [])
+    ∷ found None None (other 0 ∷ lists 2 1 0 ∷ of_layout 1 0 ∷ [])
     -- two blocks, then two units
-    ∷ found Nowhere (At 2) (other 0 ∷ lists 2 1 0 ∷ lists 2 1 1 ∷ of_layout 1 0 ∷ of_layout 1 1 ∷ [])
+    ∷ found None (Some 2) (other 0 ∷ lists 2 1 0 ∷ lists 2 1 1 ∷ of_layout 1 0 ∷ of_layout 1 1 ∷ [])
     -- two blocks, each with its unit
-    ∷ found (At 3) Nowhere (other 0 ∷ lists 2 1 0 ∷ of_layout 1 0 ∷ lists 2 1 1 ∷ of_layout 1 1 ∷ [])
+    ∷ found (Some 3) None (other 0 ∷ lists 2 1 0 ∷ of_layout 1 0 ∷ lists 2 1 1 ∷ of_layout 1 1 ∷ [])
     -- a block, its unit missing
-    ∷ found (At 2) (At 2) (other 0 ∷ lists 2 1 0 ∷ [])
+    ∷ found (Some 2) (Some 2) (other 0 ∷ lists 2 1 0 ∷ [])
     -- portions 0 and 1, units of 1 and then 0
-    ∷ found (At 2) Nowhere (other 0 ∷ two ∷ unit (name (1 ∷ 0 ∷ 1 ∷ [])) absent ∷ of_layout 1 0 ∷ [])
+    ∷ found (Some 2) None (other 0 ∷ two ∷ unit (name (1 ∷ 0 ∷ 1 ∷ [])) absent ∷ of_layout 1 0 ∷ [])
     -- portions 0 and 1, the unit of 1 alone
-    ∷ found (At 2) (At 3) (other 0 ∷ two ∷ unit (name (1 ∷ 0 ∷ 1 ∷ [])) absent ∷ [])
+    ∷ found (Some 2) (Some 3) (other 0 ∷ two ∷ unit (name (1 ∷ 0 ∷ 1 ∷ [])) absent ∷ [])
     -- a unit that no element lists
-    ∷ found (At 2) (At 2) (other 0 ∷ bare 2 (1 ∷ 0 ∷ []) ∷ unit (name (9 ∷ 9 ∷ [])) absent ∷ [])
+    ∷ found (Some 2) (Some 2) (other 0 ∷ bare 2 (1 ∷ 0 ∷ []) ∷ unit (name (9 ∷ 9 ∷ [])) absent ∷ [])
     -- a unit without identifier after a block
-    ∷ found (At 2) (At 2) (other 0 ∷ bare 2 (1 ∷ 0 ∷ []) ∷ unit absent absent ∷ [])
+    ∷ found (Some 2) (Some 2) (other 0 ∷ bare 2 (1 ∷ 0 ∷ []) ∷ unit absent absent ∷ [])
     -- a unit before its block
-    ∷ found (At 1) (At 1) (other 0 ∷ of_layout 1 0 ∷ lists 2 1 0 ∷ [])
+    ∷ found (Some 1) (Some 1) (other 0 ∷ of_layout 1 0 ∷ lists 2 1 0 ∷ [])
     -- an object, then a presentation style
-    ∷ found (At 2) (At 2) (other 0 ∷ bare 2 (1 ∷ []) ∷ other 7 ∷ [])
+    ∷ found (Some 2) (Some 2) (other 0 ∷ bare 2 (1 ∷ []) ∷ other 7 ∷ [])
     -- a class, a style, an object
-    ∷ found Nowhere Nowhere (other 0 ∷ bare 1 (0 ∷ []) ∷ other 7 ∷ bare 2 (1 ∷ []) ∷ [])
+    ∷ found None None (other 0 ∷ bare 1 (0 ∷ []) ∷ other 7 ∷ bare 2 (1 ∷ []) ∷ [])
     -- a class with its unit, a style, an object with its unit
-    ∷ found Nowhere Nowhere (other 0 ∷ lists 1 0 0 ∷ of_layout 0 0 ∷ other 7 ∷ lists 2 1 0 ∷ of_layout 1 0 ∷ [])
+    ∷ found None None (other 0 ∷ lists 1 0 0 ∷ of_layout 0 0 ∷ other 7 ∷ lists 2 1 0 ∷ of_layout 1 0 ∷ [])
     -- a class with a portion, a style, then the unit
-    ∷ found (At 2) (At 2) (other 0 ∷ lists 1 0 0 ∷ other 7 ∷ of_layout 0 0 ∷ [])
+    ∷ found (Some 2) (Some 2) (other 0 ∷ lists 1 0 0 ∷ other 7 ∷ of_layout 0 0 ∷ [])
     -- a layout style
-    ∷ found Nowhere (At 1) (other 0 ∷ other 8 ∷ [])
+    ∷ found None (Some 1) (other 0 ∷ other 8 ∷ [])
     -- a logical object
-    ∷ found Nowhere (At 1) (other 0 ∷ bare 6 (3 ∷ []) ∷ [])
+    ∷ found None (Some 1) (other 0 ∷ bare 6 (3 ∷ []) ∷ [])
     -- all groups of class A in 1988
-    ∷ found Nowhere (At 2)
+    ∷ found None (Some 2)
     (other 0 ∷ lists 1 0 0 ∷ lists 5 2 0 ∷ of_layout 0 0 ∷ of_logical 2 0 ∷ other 7 ∷ other 8
     ∷ lists 2 1 0 ∷ lists 6 3 0 ∷ of_both 1 0 3 0 ∷ [])
     -- a logical class, a layout class
-    ∷ found (At 2) (At 1) (other 0 ∷ bare 5 (2 ∷ []) ∷ bare 1 (0 ∷ []) ∷ [])
+    ∷ found (Some 2) (Some 1) (other 0 ∷ bare 5 (2 ∷ []) ∷ bare 1 (0 ∷ []) ∷ [])
     -- a layout style, a presentation style
-    ∷ found (At 2) (At 1) (other 0 ∷ other 8 ∷ other 7 ∷ [])
+    ∷ found (Some 2) (Some 1) (other 0 ∷ other 8 ∷ other 7 ∷ [])
     -- a logical object, a layout object
-    ∷ found (At 2) (At 1) (other 0 ∷ bare 6 (3 ∷ []) ∷ bare 2 (1 ∷ []) ∷ [])
+    ∷ found (Some 2) (Some 1) (other 0 ∷ bare 6 (3 ∷ []) ∷ bare 2 (1 ∷ []) ∷ [])
     -- units in layout order, not in logical order
-    ∷ found Nowhere (At 2)
+    ∷ found None (Some 2)
     (other 0 ∷ lists 2 1 0 ∷ lists 2 1 1 ∷ lists 6 3 0 ∷ lists 6 3 1 ∷ of_both 1 0 3 1 ∷ of_both 1 1 3 0 ∷ [])
     -- units in logical order, not in layout order
-    ∷ found (At 5) (At 2)
+    ∷ found (Some 5) (Some 2)
     (other 0 ∷ lists 2 1 0 ∷ lists 2 1 1 ∷ lists 6 3 0 ∷ lists 6 3 1 ∷ of_both 1 1 3 0 ∷ of_both 1 0 3 1 ∷ [])
     -- no layout object, and units not in logical order
-    ∷ found (At 3) (At 1) (other 0 ∷ lists 6 3 0 ∷ lists 6 3 1 ∷ of_logical 3 1 ∷ of_logical 3 0 ∷ [])
+    ∷ found (Some 3) (Some 1) (other 0 ∷ lists 6 3 0 ∷ lists 6 3 1 ∷ of_logical 3 1 ∷ of_logical 3 0 ∷ [])
     -- a unit that is generic on one side and specific on the other
-    ∷ found (At 2) (At 1) (other 0 ∷ lists 5 2 0 ∷ lists 2 1 0 ∷ of_both 1 0 2 0 ∷ [])
+    ∷ found (Some 2) (Some 1) (other 0 ∷ lists 5 2 0 ∷ lists 2 1 0 ∷ of_both 1 0 2 0 ∷ [])
     -- an object that lists a portion and has no identifier
-    ∷ found (At 1) (At 1) (other 0 ∷ lister 2 absent (spelling (0 ∷ []) ∷ []) ∷ [])
+    ∷ found (Some 1) (Some 1) (other 0 ∷ lister 2 absent (spelling (0 ∷ []) ∷ []) ∷ [])
     -- siblings split
-    ∷ found Nowhere Nowhere (other 0 ∷ bare 1 (0 ∷ 0 ∷ []) ∷ bare 1 (0 ∷ 0 ∷ 0 ∷ []) ∷ bare 1 (0 ∷ 1 ∷ []) ∷ [])
+    ∷ found None None (other 0 ∷ bare 1 (0 ∷ 0 ∷ []) ∷ bare 1 (0 ∷ 0 ∷ 0 ∷ []) ∷ bare 1 (0 ∷ 1 ∷ []) ∷ [])
     -- a generic unit, then an object that lists it too: ranks ascend, and yet it begins no run
-    ∷ found (At 3) (At 3) (other 0 ∷ lists 1 0 0 ∷ of_both 0 0 3 0 ∷ lists 6 3 0 ∷ [])
+    ∷ found (Some 3) (Some 3) (other 0 ∷ lists 1 0 0 ∷ of_both 0 0 3 0 ∷ lists 6 3 0 ∷ [])
     -- the protected parts of 1993, by class A, and those of class B
-    ∷ found Nowhere (At 4) (other 0 ∷ bare 2 (1 ∷ []) ∷ other 9 ∷ other 10 ∷ other 11 ∷ other 12 ∷ [])
-    ∷ found Nowhere Nowhere (other 0 ∷ bare 2 (1 ∷ []) ∷ other 9 ∷ other 10 ∷ other 12 ∷ [])
+    ∷ found None (Some 4) (other 0 ∷ bare 2 (1 ∷ []) ∷ other 9 ∷ other 10 ∷ other 11 ∷ other 12 ∷ [])
+    ∷ found None None (other 0 ∷ bare 2 (1 ∷ []) ∷ other 9 ∷ other 10 ∷ other 12 ∷ [])
     -- an enciphered profile, then a sealed one
-    ∷ found (At 2) (At 2) (other 0 ∷ other 10 ∷ other 9 ∷ [])
+    ∷ found (Some 2) (Some 2) (other 0 ∷ other 10 ∷ other 9 ∷ [])
     ∷ []

@@ -1,6 +1,6 @@
 -- Class A in one pass over numbers, as code does it: a few numbers of each element, and of what went before four. For the code alone; proofs/
 -- shows that it finds the place of 26.
-use Rattle.std.specs.Prelude.{ℕ, suc, ◌+◌, ◌-◌, Bool, cond, not, ◌&&◌, ◌||◌, List, [], ◌∷◌, ◌++◌, map, eqb, leb, ltb, length}
+use Rattle.std.specs.Prelude.{ℕ, suc, ◌+◌, ◌-◌, Bool, cond, not, ◌&&◌, ◌||◌, List, [], ◌∷◌, ◌++◌, map, eqb, leb, ltb, length, Option, None, Some}
 use Rattle.headers.specs.Head.{is_in}
 use Rattle.portions.specs.Portions.{all, any}
 use Rattle.elements.specs.Judge.{Element}
@@ -8,8 +8,6 @@ use Rattle.reading.specs.Match.{unit_kind}
 use Rattle.order.specs.Represents.{named, represents, is_associated, profile_kind, Listed, everything, keep}
 use Rattle.order.specs.Ranks.{rank_in}
 use Rattle.order.specs.ClassA.{rows_a, end_a, generic_rank, specific_rank, class_kinds, object_kinds, unit_rank, ordered_by, listed_of}
-use Rattle.order.specs.declared.Fault.{Fault}
-use Rattle.order.specs.declared.Fault.TheVariants.{Nowhere, At}
 
 -- what the elements of these kinds list
 unfoldable pub listed_in : (kinds : List ℕ) → List Element → List Listed
@@ -94,15 +92,15 @@ next_a s x =
     }
 
 -- the elements from n on
-unfoldable pub pass_a : StateA → (n : ℕ) → List SightA → Fault
-pass_a s n [] = cond (eqb s.generic 0 && eqb s.specific 0) Nowhere (At n)
-pass_a s n (x ∷ xs) = cond (all (tests_a s x)) (pass_a (next_a s x) (suc n) xs) (At n)
+unfoldable pub pass_a : StateA → (n : ℕ) → List SightA → Option ℕ
+pass_a s n [] = cond (eqb s.generic 0 && eqb s.specific 0) None (Some n)
+pass_a s n (x ∷ xs) = cond (all (tests_a s x)) (pass_a (next_a s x) (suc n) xs) (Some n)
 
 -- nothing has been
 abbrev pub none_a : StateA
 none_a = record { rank = 0; generic = 0; specific = 0; ordered = 0 }
 
 -- the first is the profile
-unfoldable pub place_a : List SightA → Fault
-place_a [] = At 0
-place_a (x ∷ xs) = cond (eqb x.kind profile_kind) (pass_a none_a 1 xs) (At 0)
+unfoldable pub place_a : List SightA → Option ℕ
+place_a [] = Some 0
+place_a (x ∷ xs) = cond (eqb x.kind profile_kind) (pass_a none_a 1 xs) (Some 0)

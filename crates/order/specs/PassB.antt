@@ -1,6 +1,6 @@
 -- Class B in one pass over numbers, as code does it: of each element its kind, whether it has an identifier, how many portions it lists and
 -- with whom it is associated; of what went before, three numbers. proofs/ shows that it finds the place of 26.
-use Rattle.std.specs.Prelude.{ℕ, suc, ◌-◌, Bool, cond, not, ◌&&◌, ◌||◌, List, [], ◌∷◌, eqb, leb, ltb, length}
+use Rattle.std.specs.Prelude.{ℕ, suc, ◌-◌, Bool, cond, not, ◌&&◌, ◌||◌, List, [], ◌∷◌, eqb, leb, ltb, length, Option, None, Some}
 use Rattle.headers.specs.Head.{is_in}
 use Rattle.elements.specs.Judge.{Element}
 use Rattle.reading.specs.declared.Side.TheVariants.{Layout}
@@ -8,8 +8,6 @@ use Rattle.reading.specs.Match.{unit_kind, kinds_of}
 use Rattle.order.specs.Represents.{named, is_associated, profile_kind}
 use Rattle.order.specs.Ranks.{rank_in}
 use Rattle.order.specs.ClassB.{rows_b, end_b}
-use Rattle.order.specs.declared.Fault.{Fault}
-use Rattle.order.specs.declared.Fault.TheVariants.{Nowhere, At}
 
 -- the number, from n + 1 on, of the element that a unit is associated with on the layout side; 0 if there is none
 unfoldable pub layout_owner : (n : ℕ) → List Element → (unit : Element) → ℕ
@@ -51,16 +49,16 @@ step_b s n x =
     (cond (eqb s.left 0 && (not (eqb x.kind profile_kind) && (ltb (rank_in rows_b x.kind) end_b && leb s.rank (rank_in rows_b x.kind))) && can_come x)
     (goes (start_b n x)) stops)
 
-abbrev pub after_b : StepB → (n : ℕ) → (StateB → Fault) → Fault
+abbrev pub after_b : StepB → (n : ℕ) → (StateB → Option ℕ) → Option ℕ
 after_b (goes s) n more = more s
-after_b stops n more = At n
+after_b stops n more = Some n
 
 -- the elements from n on
-unfoldable pub pass_b : StateB → (n : ℕ) → List Sight → Fault
-pass_b s n [] = cond (eqb s.left 0) Nowhere (At n)
+unfoldable pub pass_b : StateB → (n : ℕ) → List Sight → Option ℕ
+pass_b s n [] = cond (eqb s.left 0) None (Some n)
 pass_b s n (x ∷ xs) = after_b (step_b s n x) n (λ t. pass_b t (suc n) xs)
 
 -- the first is the profile
-unfoldable pub place_b : List Sight → Fault
-place_b [] = At 0
-place_b (x ∷ xs) = cond (eqb x.kind profile_kind && can_come x) (pass_b (start_b 0 x) 1 xs) (At 0)
+unfoldable pub place_b : List Sight → Option ℕ
+place_b [] = Some 0
+place_b (x ∷ xs) = cond (eqb x.kind profile_kind && can_come x) (pass_b (start_b 0 x) 1 xs) (Some 0)

@@ -19,7 +19,7 @@ use Rattle.letters.specs.Telling.{RowsTell, element_at}
 use Rattle.order.specs.Represents.{◌∈◌}
 use Rattle.order.specs.ClassA.{represents_some}
 use Rattle.owners.specs.declared.Owner.{Owner}
-use Rattle.owners.specs.declared.Owner.TheVariants.{Nobody, Of}
+use Rattle.std.specs.Prelude.{Option, None, Some}
 use Rattle.owners.specs.Owner.{match_of, OwnerIs}
 use Rattle.owners.proofs.Telling.{kind-told}
 use Rattle.order_a.specs.Turns.{RowBelow, own_of, OwnIs}
@@ -90,24 +90,24 @@ module _ {s rows : List ℕ} {n : ℕ} {es : List Element} (ready : RowsTell s r
             which (inl e) h = other_row es side row p u m e
             which (inr e) h = d (cases (ltb row u) (λ t. ltb-true row u t) (λ t. let i = ltb-false row u t in absurd (e (omega arith))))
 
-  pub own_is : (owner : Owner) → OwnerIs side es u owner → OwnIs side es n u (own_of rows n u owner)
-  own_is Nobody none =
+  pub own_is : (owner : Option Owner) → OwnerIs side es u owner → OwnIs side es n u (own_of rows n u owner)
+  own_is None none =
       record {
         kinds = none_before (λ r q i l. none r q i);
         placed = λ t. absurd (no_kind side t);
         no_later = λ r q i. absurd (none r q i);
         later_is = inl refl;
       }
-  own_is (Of row p) m =
-      cases (ltb row u)
-      (λ t. subst (OwnIs side es n u) (sym (rw t)) (earlier row p m (ltb-true row u t)))
-      (λ t. let h = ltb-false row u t in subst (OwnIs side es n u) (sym (rw t)) (later row p m (λ l. omega arith)))
+  own_is (Some o) m =
+      cases (ltb o.row u)
+      (λ t. subst (OwnIs side es n u) (sym (rw t)) (earlier o.row o.portion m (ltb-true o.row u t)))
+      (λ t. let h = ltb-false o.row u t in subst (OwnIs side es n u) (sym (rw t)) (later o.row o.portion m (λ l. omega arith)))
 
-  pub row_inside : (owner : Owner) → OwnerIs side es u owner → RowBelow n owner
-  row_inside Nobody none = tt
-  row_inside (Of row p) m = omega (arith, row_below es side row p u m, ready.counted)
+  pub row_inside : (owner : Option Owner) → OwnerIs side es u owner → RowBelow n owner
+  row_inside None none = tt
+  row_inside (Some o) m = omega (arith, row_below es side o.row o.portion u m, ready.counted)
 
-pub row_low : (rows : List ℕ) (n u : ℕ) (owner : Owner) → (own_of rows n u owner).row ≤ u
-row_low rows n u Nobody = omega arith
-row_low rows n u (Of row p) =
-    cases (ltb row u) (λ t. let l = ltb-true row u t in rw t (omega arith)) (λ t. rw t (omega arith))
+pub row_low : (rows : List ℕ) (n u : ℕ) (owner : Option Owner) → (own_of rows n u owner).row ≤ u
+row_low rows n u None = omega arith
+row_low rows n u (Some o) =
+    cases (ltb o.row u) (λ t. let l = ltb-true o.row u t in rw t (omega arith)) (λ t. rw t (omega arith))

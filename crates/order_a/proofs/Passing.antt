@@ -1,4 +1,5 @@
 -- The pass from its start, after the profile, to its end; and that no number wraps on the way.
+use Rattle.std.specs.Prelude.{None, Some}
 use mathlib.Core.Path.{◌≡◌, refl, ap, sym, ◌∙◌, subst}
 use mathlib.Core.Logic.{◌⊎◌, inl, inr}
 use mathlib.Core.Bool.{true, false, cond, ◌&&◌}
@@ -14,7 +15,6 @@ use Rattle.reading.specs.Match.{matches}
 use Rattle.letters.specs.Telling.{element_at}
 use Rattle.order.specs.Represents.{◌∈◌, LimitsAside}
 use Rattle.order.specs.declared.Class.TheVariants.{A}
-use Rattle.order.specs.declared.Fault.TheVariants.{Nowhere, At}
 use Rattle.order.specs.Fault.{fault_of}
 use Rattle.order.specs.PassA.{sights_a, pass_a, place_a}
 use Rattle.order.proofs.PassA.{pass_exactly}
@@ -56,20 +56,20 @@ start-bounds n = record { row = omega arith; base = omega arith; generic = omega
 
 -- at the end
 module _ (es : List Element) (aside : LimitsAside es) (n : ℕ) (count : length es ≡ n) (w : Walk) (st : Standing es n w) where
-  ends : place_a (sights_a [] es) ≡ cond (eqb w.state.generic 0 && eqb w.state.specific 0) Nowhere (At n)
+  ends : place_a (sights_a [] es) ≡ cond (eqb w.state.generic 0 && eqb w.state.specific 0) None (Some n)
   unfolding pass_a
   ends = st.goes_on ∙ ap (λ (xs : List Element). pass_a (as_state w.state) n (sights_a (take n es) xs)) (drop_of_length-le es {i = n} (omega arith))
 
-  pub ends-waiting : waiting w.state ≡ true → At n ≡ fault_of A es
+  pub ends-waiting : waiting w.state ≡ true → Some n ≡ fault_of A es
   unfolding waiting
   ends-waiting t = let e = not-true (eqb w.state.generic 0 && eqb w.state.specific 0) t in sym (sym (pass_exactly es aside) ∙ ends ∙ rw e)
 
-  pub ends-whole : waiting w.state ≡ false → Nowhere ≡ fault_of A es
+  pub ends-whole : waiting w.state ≡ false → None ≡ fault_of A es
   unfolding waiting
   ends-whole t = let e = not-false (eqb w.state.generic 0 && eqb w.state.specific 0) t in sym (sym (pass_exactly es aside) ∙ ends ∙ rw e)
 
 -- where the first is no profile
-pub no_profile : (es : List Element) → LimitsAside es → (length es ≡ 0) ⊎ ((element_at es 0).kind ≡ 0 → ⊥) → At 0 ≡ fault_of A es
+pub no_profile : (es : List Element) → LimitsAside es → (length es ≡ 0) ⊎ ((element_at es 0).kind ≡ 0 → ⊥) → Some 0 ≡ fault_of A es
 unfolding place_a
 no_profile [] aside e = sym (sym (pass_exactly [] aside) ∙ refl)
 no_profile (x ∷ xs) aside (inl z) = absurd (omega arith)

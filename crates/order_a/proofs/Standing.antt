@@ -1,5 +1,7 @@
 -- One element more: what the code sees of it is what the definition looks at; where it may not stand 26 is there, and where it may, what is
 -- known before the next is so again.
+use Rattle.std.specs.Prelude.{Some, min}
+use Rattle.std.proofs.lemmas.Bool.{cases_lt}
 use mathlib.Core.Path.{◌≡◌, refl, ap, sym, ◌∙◌, subst}
 use mathlib.Core.Logic.{◌⊎◌, inl, inr}
 use mathlib.Core.Bool.{Bool, true, false, cond, not, ◌||◌, true≢false}
@@ -20,7 +22,6 @@ use Rattle.letters.specs.Telling.{element_at, no_element}
 use Rattle.order.specs.Represents.{◌∈◌, named, is_associated, LimitsAside}
 use Rattle.order.specs.Ranks.{rank_in}
 use Rattle.order.specs.ClassA.{end_a, specific_rank, unit_rank, class_kinds, object_kinds, ordered_by, listed_of}
-use Rattle.order.specs.declared.Fault.TheVariants.{At}
 use Rattle.order.specs.PassA.{listed_in, represents_of, slot_in, sight_a, sights_a, rank_seen, tests_a, pass_a, place_a, count_if}
 use Rattle.order.proofs.Place.{aside-left}
 use Rattle.order.proofs.SightsA.{Passing, passing-told}
@@ -32,7 +33,7 @@ use Rattle.owners.specs.Owner.{match_of}
 use Rattle.order_a.specs.declared.turns.Own.{Own}
 use Rattle.order_a.specs.declared.Walk.{Walk}
 use Rattle.order_a.specs.Turns.{OwnIs, kind_for, own_for, row_for, turn_for, counts, before}
-use Rattle.order_a.specs.Pass.{lesser, has_layouts, walk_for, Standing}
+use Rattle.order_a.specs.Pass.{has_layouts, walk_for, Standing}
 use Rattle.order_a.proofs.Records.{whole, early-of, early-told, unit-kind}
 use Rattle.order_a.proofs.Slots.{before-none}
 use Rattle.order_a.proofs.Numbers.{Ordering, ordering, ordered_is, turn_is, base-next, record_of, row_stays, ordered-counts}
@@ -61,17 +62,13 @@ specific-place : (generic : Bool) → unit_rank generic true < end_a → specifi
 specific-place true l = absurd (omega arith)
 specific-place false l = omega arith
 
-pub lesser-left : (a b : ℕ) → lesser a b ≤ a
-unfolding lesser
-lesser-left a b = cases (ltb a b) (λ t. rw t (omega arith)) (λ t. let l = ltb-false a b t in rw t (omega arith))
-
-pub lesser-right : (a b : ℕ) → lesser a b ≤ b
-unfolding lesser
-lesser-right a b = cases (ltb a b) (λ t. let l = ltb-true a b t in rw t (omega arith)) (λ t. rw t (omega arith))
-
-pub lesser-is : (a b : ℕ) → (lesser a b ≡ a) ⊎ (lesser a b ≡ b)
-unfolding lesser
-lesser-is a b = cases (ltb a b) (λ t. inl (rw t)) (λ t. inr (rw t))
+-- the lesser of two is one of them
+min-is : (a b : ℕ) → (min a b ≡ a) ⊎ (min a b ≡ b)
+min-is a b = which (cases_lt a b)
+  where
+    which : (a < b) ⊎ (b ≤ a) → (min a b ≡ a) ⊎ (min a b ≡ b)
+    which (inl l) = inl (omega arith)
+    which (inr l) = inr (omega arith)
 
 module _ (es : List Element) (aside : LimitsAside es) (k : ℕ) (below : k < length es) (w : Walk) (st : Standing es k w) (row_low : w.row ≤ k)
     (layout logical : Own) (a : OwnIs Layout es (length es) k layout) (b : OwnIs Logical es (length es) k logical) (row base : ℕ)
@@ -153,7 +150,7 @@ module _ (es : List Element) (aside : LimitsAside es) (k : ℕ) (below : k < len
 
   -- from here
   from-here : place_a (sights_a [] es) ≡ cond (stands w.state x)
-      (pass_a (as_state (next w.state x)) (suc k) (sights_a (take (suc k) es) (drop (suc k) es))) (At k)
+      (pass_a (as_state (next w.state x)) (suc k) (sights_a (take (suc k) es) (drop (suc k) es))) (Some k)
   unfolding pass_a
   from-here =
       st.goes_on
@@ -161,7 +158,7 @@ module _ (es : List Element) (aside : LimitsAside es) (k : ℕ) (below : k < len
       ∙ rw (tests, next-exactly w.state (sight_a front here) x sees, take-suc es k no_element below)
 
   -- where it may not stand, 26 is there
-  pub stops-here : stands w.state x ≡ false → place_a (sights_a [] es) ≡ At k
+  pub stops-here : stands w.state x ≡ false → place_a (sights_a [] es) ≡ Some k
   stops-here t = from-here ∙ rw t
 
   module _ (t : stands w.state x ≡ true) where
@@ -196,7 +193,7 @@ module _ (es : List Element) (aside : LimitsAside es) (k : ℕ) (below : k < len
         which (inr (p, l, m)) = inr (p, l, (side, m))
 
     abbrev three : ℕ
-    three = lesser w.least (lesser layout.later logical.later)
+    three = min w.least (min layout.later logical.later)
 
     three-low : suc k ≤ three
     three-low =
@@ -204,25 +201,13 @@ module _ (es : List Element) (aside : LimitsAside es) (k : ℕ) (below : k < len
         let j = later-low logical (later Logical logical b) in
         let h = st.least_low in
         let g : k < w.least = further (not_least) h in
-        of_three (lesser-is w.least (lesser layout.later logical.later)) (lesser-is layout.later logical.later) g i j
+        omega arith
       where
         further : (w.least ≡ k → ⊥) → k ≤ w.least → k < w.least
         further differ l = cases (ltb k w.least) (λ u. ltb-true k w.least u) (λ u. let m = ltb-false k w.least u in absurd (differ (omega arith)))
 
-        of_three : (three ≡ w.least) ⊎ (three ≡ lesser layout.later logical.later) → (lesser layout.later logical.later ≡ layout.later)
-            ⊎ (lesser layout.later logical.later ≡ logical.later)
-            → k < w.least → suc k ≤ layout.later → suc k ≤ logical.later → suc k ≤ three
-        of_three (inl p) q g i j = omega arith
-        of_three (inr p) (inl q) g i j = omega arith
-        of_three (inr p) (inr q) g i j = omega arith
-
     three-few : (three ≤ w.least) × (three ≤ layout.later) × (three ≤ logical.later)
-    three-few =
-        let l = lesser-left w.least (lesser layout.later logical.later) in
-        let r = lesser-right w.least (lesser layout.later logical.later) in
-        let i = lesser-left layout.later logical.later in
-        let j = lesser-right layout.later logical.later in
-        (l, omega arith, omega arith)
+    three-few = (omega arith, omega arith, omega arith)
 
     no_less : (side : Side) (row' p u : ℕ) → u < suc k → match_of row' p u ∈ matches side es → (row' < suc k) ⊎ (three ≤ row')
     no_less side r p u l m = cases (eqb u k) (λ e. now (eqb-true u k e)) (λ e. let d = eqb-false u k e in before-it (st.no_less side r p u (less d) m))
@@ -253,7 +238,7 @@ module _ (es : List Element) (aside : LimitsAside es) (k : ℕ) (below : k < len
     Least least = (least ≡ length es) ⊎ ((side : Side) × (p : ℕ) × (u : ℕ) × (u < suc k) × (match_of least p u ∈ matches side es))
 
     least_is : Least three
-    least_is = of_three (lesser-is w.least (lesser layout.later logical.later)) (lesser-is layout.later logical.later)
+    least_is = of_three (min-is w.least (min layout.later logical.later)) (min-is layout.later logical.later)
       where
         old : (w.least ≡ length es) ⊎ ((side : Side) × (p : ℕ) × (u : ℕ) × (u < k) × (match_of w.least p u ∈ matches side es)) → Least w.least
         old (inl z) = inl z
@@ -264,8 +249,8 @@ module _ (es : List Element) (aside : LimitsAside es) (k : ℕ) (below : k < len
         new o (inl z) = inl z
         new o (inr (p, l, (side, m))) = inr (side, p, k, omega arith, m)
 
-        of_three : (three ≡ w.least) ⊎ (three ≡ lesser layout.later logical.later) → (lesser layout.later logical.later ≡ layout.later)
-            ⊎ (lesser layout.later logical.later ≡ logical.later)
+        of_three : (three ≡ w.least) ⊎ (three ≡ min layout.later logical.later) → (min layout.later logical.later ≡ layout.later)
+            ⊎ (min layout.later logical.later ≡ logical.later)
             → Least three
         of_three (inl p) q = subst Least (sym p) (old st.least_is)
         of_three (inr p) (inl q) = subst Least (sym (p ∙ q)) (new layout (later Layout layout a))

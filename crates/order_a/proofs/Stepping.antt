@@ -1,4 +1,5 @@
 -- One row more, as the code takes it: of whatever elements the rows tell.
+use Rattle.std.specs.Prelude.{None, Some}
 use mathlib.Core.Path.{◌≡◌, refl, ap, sym, ◌∙◌, subst}
 use mathlib.Core.Bool.{true, false}
 use mathlib.Core.List.{List}
@@ -14,7 +15,6 @@ use Rattle.letters.specs.Scratch.{LetterRows}
 use Rattle.reading.specs.declared.Side.TheVariants.{Layout, Logical}
 use Rattle.letters.specs.Telling.{RowsTell}
 use Rattle.order.specs.Represents.{LimitsAside}
-use Rattle.order.specs.declared.Fault.TheVariants.{Nowhere, At}
 use Rattle.order.specs.declared.Class.TheVariants.{A}
 use Rattle.order.specs.Fault.{FaultIn}
 use Rattle.order.proofs.PassA.{pass_exactly}
@@ -25,7 +25,6 @@ use Rattle.letters.proofs.Telling.{few-rows}
 use Rattle.owners.proofs.Telling.{kind-told, named-told, lists-told, meetable}
 use Rattle.order_a.specs.declared.turns.Own.{Own}
 use Rattle.order_a.specs.declared.Walk.{Walk}
-use Rattle.order_a.specs.declared.Step.TheVariants.{Stops, Goes}
 use Rattle.order_a.specs.Turns.{OwnIs, OwnAt, kind_for, own_for, row_for, before, Reaches}
 use Rattle.order_a.specs.Pass.{sight_for, walk_for, start_of, Standing, Bounds, StepAt}
 use Rattle.order_a.proofs.Numbers.{row-rises, row-few}
@@ -85,12 +84,12 @@ module _ {edition : Edition} {s rows : List ℕ} {n : ℕ} (rows_of_lem : Letter
             turn = refl;
           })
 
-    pub stops : stands w.state x ≡ false → StepAt s rows n k w Stops
+    pub stops : stands w.state x ≡ false → StepAt s rows n k w None
     stops t es ready aside st =
         stops-here es aside k (inside es ready aside st) w st bounds.row layout logical (of-layout es ready aside st) (of-logical es ready aside st) row base
         (row_same es ready aside st) (base_same es ready aside st) x (seen es ready aside st) t
 
-    pub goes : (v : Walk) → v ≡ walk_for w x layout logical row base → stands w.state x ≡ true → StepAt s rows n k w (Goes v)
+    pub goes : (v : Walk) → v ≡ walk_for w x layout logical row base → stands w.state x ≡ true → StepAt s rows n k w (Some v)
     goes v v-is t = (
       subst (Bounds (suc k)) (sym v-is) (bounds-next k w x layout logical row base bounds lists-few row_low reaches.small),
       λ es ready aside st. subst (Standing es (suc k)) (sym v-is)
@@ -114,10 +113,10 @@ walking-first {s} {rows} {n} l k =
     }
 
 module _ {s rows : List ℕ} {n k : ℕ} {w : Walk} (at : Walking s rows n k w) where
-  pub walking-stops : StepAt s rows n k w Stops → FaultIn A s rows n (At k)
+  pub walking-stops : StepAt s rows n k w None → FaultIn A s rows n (Some k)
   walking-stops step es ready aside = sym (step es ready aside (at.standing es ready aside)) ∙ pass_exactly es aside
 
-  pub walking-more : {v : Walk} → k < n → StepAt s rows n k w (Goes v) → Walking s rows n (k + 1) v
+  pub walking-more : {v : Walk} → k < n → StepAt s rows n k w (Some v) → Walking s rows n (k + 1) v
   walking-more {v} l step =
       subst (λ (i : ℕ). Walking s rows n i v) (sym (add-one k))
       (record { within = omega arith; bounds = step.0; standing = λ es ready aside. step.1 es ready aside (at.standing es ready aside) })
@@ -129,8 +128,8 @@ module _ {s rows : List ℕ} {n k : ℕ} {w : Walk} (at : Walking s rows n k w) 
     stands_at : (es : List Element) → RowsTell s rows n es → LimitsAside es → Standing es n w
     stands_at es ready aside = subst (λ (i : ℕ). Standing es i w) last (at.standing es ready aside)
 
-    pub walking-ends : waiting w.state ≡ true → FaultIn A s rows n (At n)
+    pub walking-ends : waiting w.state ≡ true → FaultIn A s rows n (Some n)
     walking-ends t es ready aside = ends-waiting es aside n ready.counted w (stands_at es ready aside) t
 
-    pub walking-whole : waiting w.state ≡ false → FaultIn A s rows n Nowhere
+    pub walking-whole : waiting w.state ≡ false → FaultIn A s rows n None
     walking-whole t es ready aside = ends-whole es aside n ready.counted w (stands_at es ready aside) t

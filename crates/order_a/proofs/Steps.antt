@@ -5,6 +5,7 @@ use mathlib.Core.List.{[], ◌∷◌}
 use Prim.Native.Nat.{ℕ, ◌≤◌}
 use native.Mathlib.Omega.{arith}
 use borrow.Table.Steps.{cases}
+use Rattle.std.specs.Int.{from_bool}
 use Rattle.headers.specs.Head.{is_in}
 use lib.Dec.{eqb, leb, ltb}
 use Rattle.order.specs.Represents.{profile_kind}
@@ -50,3 +51,8 @@ count-few kind a b lists = cases (is_in kind (a ∷ b ∷ [])) (λ t. rw t (omeg
 pub one-few : (test : Bool) → one test ≤ 1
 one-few true = omega arith
 one-few false = omega arith
+
+-- a test as a number is what is counted of it
+pub one-is : (test : Bool) → from_bool test ≡ one test
+one-is true = refl
+one-is false = refl

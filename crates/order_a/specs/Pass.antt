@@ -1,5 +1,5 @@
 -- What the code of the pass for class A sees of an element and keeps of what went before, in numbers; of whatever elements the rows tell.
-use Rattle.std.specs.Prelude.{ℕ, suc, ◌*◌, ◌<◌, ◌≤◌, ◌≡◌, ◌⊎◌, Bool, false, cond, ◌||◌, List, [], map, eqb, ltb, length, take, drop}
+use Rattle.std.specs.Prelude.{ℕ, suc, ◌*◌, ◌<◌, ◌≤◌, ◌≡◌, ◌⊎◌, Bool, false, ◌||◌, List, [], map, eqb, min, length, take, drop, Some, Option, None}
 use Rattle.portions.specs.Portions.{any}
 use Rattle.rows.specs.Columns.{identifier_column, kind_at}
 use Rattle.elements.specs.Judge.{Element}
@@ -9,20 +9,13 @@ use Rattle.letters.specs.Telling.{RowsTell}
 use Rattle.rows.specs.Columns.{span_at, there}
 use Rattle.order.specs.Represents.{◌∈◌, LimitsAside}
 use Rattle.order.specs.ClassA.{specific_rank}
-use Rattle.order.specs.declared.Fault.TheVariants.{At}
 use Rattle.order.specs.PassA.{sights_a, pass_a, place_a}
 use Rattle.owners.specs.Owner.{match_of, listed_at}
 use Rattle.order_a.specs.declared.ranks.Sight.{Sight}
 use Rattle.order_a.specs.Step.{as_state, next}
 use Rattle.order_a.specs.declared.turns.Own.{Own}
 use Rattle.order_a.specs.declared.Walk.{Walk}
-use Rattle.order_a.specs.declared.Step.{Step}
-use Rattle.order_a.specs.declared.Step.TheVariants.{Stops, Goes}
 use Rattle.order_a.specs.Turns.{kind_for, own_for, turn_for, counts, before}
-
--- the lesser of two
-unfoldable pub lesser : (a b : ℕ) → ℕ
-lesser a b = cond (ltb a b) a b
 
 -- what is seen of element k
 unfoldable pub sight_for : (s rows : List ℕ) → (k : ℕ) → Walk → (layout logical : Own) → (row base : ℕ) → Sight
@@ -47,7 +40,7 @@ unfoldable pub walk_for : Walk → Sight → (layout logical : Own) → (row bas
 walk_for w x layout logical row base =
     record {
       state = next w.state x;
-      least = lesser w.least (lesser layout.later logical.later);
+      least = min w.least (min layout.later logical.later);
       row = row;
       base = base;
       layouts = has_layouts w.layouts x.kind;
@@ -82,8 +75,8 @@ pub record Bounds (k : ℕ) (w : Walk) : Type 0 where
   pub ordered : w.state.ordered ≤ k
 
 -- what a step answers: 26 is here, or the same is known before the next element
-abbrev pub StepAt : (s rows : List ℕ) → (n k : ℕ) → Walk → Step → Type 0
-StepAt s rows n k w Stops =
-    (elements : List Element) → RowsTell s rows n elements → LimitsAside elements → Standing elements k w → place_a (sights_a [] elements) ≡ At k
-StepAt s rows n k w (Goes v) =
+abbrev pub StepAt : (s rows : List ℕ) → (n k : ℕ) → Walk → Option Walk → Type 0
+StepAt s rows n k w None =
+    (elements : List Element) → RowsTell s rows n elements → LimitsAside elements → Standing elements k w → place_a (sights_a [] elements) ≡ Some k
+StepAt s rows n k w (Some v) =
     Bounds (suc k) v × ((elements : List Element) → RowsTell s rows n elements → LimitsAside elements → Standing elements k w → Standing elements (suc k) v)

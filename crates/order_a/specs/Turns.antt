@@ -1,6 +1,6 @@
 -- What a unit's records tell in numbers: which element it is associated with on a side, and where its portion stands among those by which units are ordered.
 -- Of whatever elements the rows tell.
-use Rattle.std.specs.Prelude.{ℕ, ◌+◌, ◌-◌, ◌*◌, ◌<◌, ◌≤◌, ◌≡◌, ◌⊎◌, Bool, true, cond, ◌&&◌, List, [], ◌∷◌, eqb, leb, ltb, length, take}
+use Rattle.std.specs.Prelude.{ℕ, ◌+◌, ◌-◌, ◌*◌, ◌<◌, ◌≤◌, ◌≡◌, ◌⊎◌, Bool, true, cond, ◌&&◌, List, [], ◌∷◌, eqb, leb, ltb, length, take, Option, None, Some}
 use Rattle.headers.specs.Head.{is_in}
 use Rattle.rows.specs.Columns.{kind_at}
 use Rattle.elements.specs.Judge.{Element}
@@ -11,20 +11,20 @@ use Rattle.order.specs.Represents.{◌∈◌}
 use Rattle.order.specs.ClassA.{represents_some, listed_of}
 use Rattle.order.specs.PassA.{count_if}
 use Rattle.owners.specs.declared.Owner.{Owner}
-use Rattle.owners.specs.declared.Owner.TheVariants.{Nobody, Of}
 use Rattle.owners.specs.Owner.{match_of, listed_at}
 use Rattle.order_a.specs.declared.turns.Own.{Own}
 
 -- the row of an owner is one of the rows
-abbrev pub RowBelow : (n : ℕ) → Owner → Type 0
-RowBelow n Nobody = Unit {0}
-RowBelow n (Of row portion) = row < n
+abbrev pub RowBelow : (n : ℕ) → Option Owner → Type 0
+RowBelow n None = Unit {0}
+RowBelow n (Some owner) = owner.row < n
 
 -- what an owner tells of row u
-abbrev pub own_of : (rows : List ℕ) → (n u : ℕ) → Owner → Own
-own_of rows n u Nobody = record { kind = 0; row = 0; portion = 0; later = n }
-own_of rows n u (Of row portion) =
-    cond (ltb row u) (record { kind = kind_at rows row; row = row; portion = portion; later = n }) (record { kind = 0; row = 0; portion = 0; later = row })
+abbrev pub own_of : (rows : List ℕ) → (n u : ℕ) → Option Owner → Own
+own_of rows n u None = record { kind = 0; row = 0; portion = 0; later = n }
+own_of rows n u (Some owner) =
+    cond (ltb owner.row u) (record { kind = kind_at rows owner.row; row = owner.row; portion = owner.portion; later = n })
+    (record { kind = 0; row = 0; portion = 0; later = owner.row })
 
 -- what is so of element u and the elements before it, on a side
 pub record OwnIs (side : Side) (elements : List Element) (n u : ℕ) (own : Own) : Type 0 where

@@ -10,9 +10,9 @@ ghost use Rattle.rows.specs.Index.{Filed};
 ghost use Rattle.order_a.specs.Step.{Small};
 ghost use Rattle.reading.specs.declared.Side.{Side};
 ghost use Rattle.order_a.specs.Turns.{OwnAt};
-ghost use Rattle.order_a.specs.Pass.{lesser, has_layouts, sight_for, walk_for, start_of, Bounds, StepAt};
+ghost use Rattle.order_a.specs.Pass.{sight_for, walk_for, start_of, Bounds, StepAt};
 
-use order::{Class, Fault};
+use order::Class;
 use ranks::{Sight, State};
 use reading::Side;
 use rows::{LAYOUT_CLASS, LAYOUT_OBJECT, LOGICAL_CLASS, LOGICAL_OBJECT, PROFILE};
@@ -20,8 +20,6 @@ use turns::Own;
 
 mod ranks; // ranks.rt: one step over numbers
 mod turns; // turns.rt: whose portion a unit represents, and whether its turn has come
-
-pub use ranks::without;
 
 // What is known of the elements so far: the step's own state; the first row that a unit before it is associated with; up to which row the portions were
 // counted by which units are ordered, and how many they are; whether there was a layout object.
@@ -32,33 +30,6 @@ pub struct Walk {
     pub row: usize,
     pub base: usize,
     pub layouts: bool,
-}
-
-// What comes of an element: 26, or what is known after it.
-#[derive(Clone, Copy)]
-pub enum Step {
-    Stops,
-    Goes(Walk),
-}
-
-// The lesser of two.
-fn least_of(a: usize, b: usize) -> usize
-    ensures { result ≡ lesser a b }
-{
-    if a < b {
-        return a;
-    }
-    b
-}
-
-// Whether there is a layout object, after an element of a kind.
-fn has_layouts(before: bool, kind: usize) -> bool
-    ensures { result ≡ has_layouts before kind }
-{
-    if before {
-        return true;
-    }
-    kind == LAYOUT_OBJECT
 }
 
 // What is seen of row k.
@@ -99,24 +70,30 @@ fn see(
 }
 
 // What is known after row k, which may stand there.
+#[tactic(auto, unfolding(crate::specs::Pass::walk_for, crate::specs::Pass::has_layouts))]
 fn walk_on(w: Walk, x: Sight, layout: Own, logical: Own, row: usize, base: usize) -> Walk
     requires { Small w.state x }
     ensures { result ≡ walk_for w x layout logical row base }
 {
-    let state = ranks::after(w.state, x);
-    let least = least_of(w.least, least_of(layout.later, logical.later));
-    let layouts = has_layouts(w.layouts, x.kind);
     Walk {
-        state,
-        least,
+        state: ranks::after(w.state, x),
+        least: w.least.min(layout.later.min(logical.later)),
         row,
         base,
-        layouts,
+        layouts: w.layouts || x.kind == LAYOUT_OBJECT,
     }
 }
 
 // What comes of row k.
-fn take_row(s: &[u8], rows: &[u32], n: usize, k: usize, w: Walk, layout: Own, logical: Own) -> Step
+fn take_row(
+    s: &[u8],
+    rows: &[u32],
+    n: usize,
+    k: usize,
+    w: Walk,
+    layout: Own,
+    logical: Own,
+) -> Option<Walk>
     requires k_lt_n { ((edition : Edition) × LetterRows edition s.now rows.now n) × (k < n) }
     requires bounds { Bounds k w }
     requires own_at { OwnAt Side.Layout s.now rows.now n k layout × OwnAt Side.Logical s.now rows.now n k logical }
@@ -127,9 +104,9 @@ fn take_row(s: &[u8], rows: &[u32], n: usize, k: usize, w: Walk, layout: Own, lo
     let base = turns::reach(s, rows, n, kind, w.row, w.base, row);
     let x = see(s, rows, n, k, w, layout, logical, row, base);
     if !ranks::may_stand(w.state, x) {
-        return Step::Stops;
+        return None;
     }
-    Step::Goes(walk_on(w, x, layout, logical, row, base))
+    Some(walk_on(w, x, layout, logical, row, base))
 }
 
 // What is known after the profile.
@@ -152,44 +129,37 @@ fn first_walk(n: usize) -> Walk
 }
 
 // The pass over the rows after the profile.
-fn pass(s: &[u8], rows: &[u32], index: &[u16], n: usize) -> Fault
+fn pass(s: &[u8], rows: &[u32], index: &[u16], n: usize) -> Option<usize>
     requires letter_rows { (edition : Edition) × LetterRows edition s.now rows.now n }
     requires filed { Filed s.now rows.now identifier_column index.now n }
     requires n_nonzero { (0 < n) × (kind_at rows.now 0 ≡ 0) }
     ensures { FaultIn Class.A s.now rows.now n result }
 {
     let mut w = first_walk(n);
-    let mut k: usize = 1;
-    while k < n {
-        let at = k;
-        k += 1;
-        let layout = turns::look(s, rows, index, n, Side::Layout, at);
-        let logical = turns::look(s, rows, index, n, Side::Logical, at);
-        match take_row(s, rows, n, at, w, layout, logical) {
-            Step::Stops => return Fault::At(at),
-            Step::Goes(after) => {
-                w = after;
-            }
+    for k in 1..n {
+        let layout = turns::look(s, rows, index, n, Side::Layout, k);
+        let logical = turns::look(s, rows, index, n, Side::Logical, k);
+        match take_row(s, rows, n, k, w, layout, logical) {
+            None => return Some(k),
+            Some(after) => w = after,
         }
     }
     if ranks::is_waiting(w.state) {
-        return Fault::At(n);
+        Some(n)
+    } else {
+        None
     }
-    Fault::Nowhere
 }
 
 // The fault of the order of class A, of the letter whose rows these are: 26 at an element, from 0, at how many they are if only the end
 // is missing, or none.
-pub fn fault_a(s: &[u8], rows: &[u32], index: &[u16], n: usize) -> Fault
+pub fn fault_a(s: &[u8], rows: &[u32], index: &[u16], n: usize) -> Option<usize>
     requires letter_rows { (edition : Edition) × LetterRows edition s.now rows.now n }
     requires filed { Filed s.now rows.now identifier_column index.now n }
     ensures { FaultIn Class.A s.now rows.now n result }
 {
-    if n == 0 {
-        return Fault::At(0);
-    }
-    if rows::kind_at(rows, 0) != PROFILE {
-        return Fault::At(0);
+    if n == 0 || rows::kind_at(rows, 0) != PROFILE {
+        return Some(0);
     }
     pass(s, rows, index, n)
 }

@@ -13,7 +13,8 @@ use reading::Side;
 use rows::{LAYOUT_OBJECT, LOGICAL_OBJECT};
 
 // Whose portion a unit represents on a side: the kind of the element, if it stands before the unit, its row and the place of the portion; kind 0,
-// if there is none. And its row, if it stands after the unit; else how many rows there are.
+// if there is none. And its row, if it stands after the unit; else how many rows there are. Kind 0 and no Option: all that is asked is whether it is of one
+// kind of those that list portions, and by an Option each of these five tests would be a match.
 #[derive(Clone, Copy)]
 pub struct Own {
     pub kind: usize,
@@ -23,33 +24,29 @@ pub struct Own {
 }
 
 // What an owner tells of row u.
-fn own_of(rows: &[u32], n: usize, u: usize, owner: Owner) -> Own
+fn own_of(rows: &[u32], n: usize, u: usize, owner: Option<Owner>) -> Own
     requires { RowBelow n owner × (n * scratch_width ≤ length rows.now) }
     ensures { result ≡ own_of rows.now n u owner }
 {
     match owner {
-        Owner::Nobody => Own {
+        Some(of) if of.row < u => Own {
+            kind: rows::kind_at(rows, of.row),
+            row: of.row,
+            portion: of.portion,
+            later: n,
+        },
+        Some(of) => Own {
+            kind: 0,
+            row: 0,
+            portion: 0,
+            later: of.row,
+        },
+        None => Own {
             kind: 0,
             row: 0,
             portion: 0,
             later: n,
         },
-        Owner::Of { row, portion } => {
-            if row < u {
-                return Own {
-                    kind: rows::kind_at(rows, row),
-                    row,
-                    portion,
-                    later: n,
-                };
-            }
-            Own {
-                kind: 0,
-                row: 0,
-                portion: 0,
-                later: row,
-            }
-        }
     }
 }
 
@@ -65,79 +62,64 @@ pub fn look(s: &[u8], rows: &[u32], index: &[u16], n: usize, side: Side, u: usiz
 }
 
 // The kind of the objects by which units are ordered: layout objects, if there are any.
+#[tactic(auto, unfolding(crate::specs::Turns::kind_for))]
 pub fn kind_for(layouts: bool) -> usize
     ensures { result ≡ kind_for layouts }
 {
     if layouts {
-        return LAYOUT_OBJECT;
+        LAYOUT_OBJECT
+    } else {
+        LOGICAL_OBJECT
     }
-    LOGICAL_OBJECT
 }
 
+#[tactic(auto, unfolding(crate::specs::Turns::own_for))]
 pub fn own_for(layouts: bool, layout: Own, logical: Own) -> Own
     ensures { result ≡ own_for layouts layout logical }
 {
-    if layouts {
-        return layout;
-    }
-    logical
+    if layouts { layout } else { logical }
 }
 
 // The row up to which portions are counted for a unit: that of its element, if it is ordered and not behind.
+#[tactic(auto, unfolding(crate::specs::Turns::row_for))]
 pub fn row_for(own: Own, kind: usize, row: usize) -> usize
     ensures { result ≡ row_for own kind row }
 {
-    if own.kind != kind {
-        return row;
+    if own.kind == kind {
+        own.row.max(row)
+    } else {
+        row
     }
-    if own.row < row {
-        return row;
-    }
-    own.row
 }
 
 // Whether the turn of a unit has come: it is not ordered, or its portion is the next, `base` being listed before those of its element.
+#[tactic(auto, unfolding(crate::specs::Turns::turn_for))]
 pub fn has_turn(own: Own, kind: usize, row: usize, base: usize, ordered: usize) -> bool
     ensures { result ≡ turn_for own kind row base ordered }
 {
-    if own.kind != kind {
-        return true;
-    }
-    if own.row != row {
-        return false;
-    }
-    if ordered < base {
-        return false;
-    }
-    own.portion == ordered - base
+    own.kind != kind || (own.row == row && base <= ordered && own.portion == ordered - base)
 }
 
 // How many of two elements are of their kind.
+#[tactic(auto, unfolding(crate::specs::Turns::counts))]
 pub fn count_kinds(layout: Own, a: usize, logical: Own, b: usize) -> usize
     ensures { result ≡ counts layout a logical b }
 {
-    if layout.kind == a {
-        if logical.kind == b {
-            return 2;
-        }
-        return 1;
-    }
-    if logical.kind == b {
-        return 1;
-    }
-    0
+    usize::from(layout.kind == a) + usize::from(logical.kind == b)
 }
 
 // How many portions row j lists, if it is of a kind.
+#[tactic(auto, unfolding(crate::specs::Turns::counts_in))]
 fn count_in(s: &[u8], rows: &[u32], n: usize, kind: usize, j: usize) -> usize
     requires letter_rows { (edition : Edition) × LetterRows edition s.now rows.now n }
     requires j_lt_n { j < n }
     ensures { result ≡ counts_in s.now rows.now kind j }
 {
     if rows::kind_at(rows, j) == kind {
-        return owners::portions_of(s, rows, j);
+        owners::portions_of(s, rows, j)
+    } else {
+        0
     }
-    0
 }
 
 // How many portions the elements of a kind list before a row, counted on from an earlier row.
@@ -154,11 +136,9 @@ pub fn reach(
     requires row_le_to { (row ≤ to) × (to ≤ n) × (base ≤ 64 * row) }
     ensures { Reaches s.now rows.now n kind row base to result }
 {
-    let mut at = row;
     let mut total = base;
-    while at < to {
+    for at in row..to {
         total += count_in(s, rows, n, kind, at);
-        at += 1;
     }
     total
 }

@@ -20,8 +20,8 @@ use Rattle.order.specs.Ranks.{rank_in}
 use Rattle.order.specs.ClassB.{rows_b}
 use Rattle.order.specs.PassB.{layout_owner, Sight, sight_of, StateB, StepB, goes, stops, start_b, can_come, step_b}
 use Rattle.order.proofs.AsMatches.{owner-match}
-use Rattle.owners.specs.declared.Owner.TheVariants.{Nobody, Of}
-use Rattle.owners.specs.Owner.{OwnerIs, listed_at}
+use Rattle.std.specs.Prelude.{None}
+use Rattle.owners.specs.Owner.{of, OwnerIs, listed_at}
 use Rattle.owners.proofs.Telling.{kind-told, named-told, lists-told}
 use Rattle.order_b.specs.Steps.{first_step, unit_step, may_follow, head_step}
 
@@ -98,7 +98,7 @@ module _ {s rows : List ℕ} {n : ℕ} {elements : List Element} (ready : RowsTe
     abbrev by_test : Bool → StepB
     by_test b = cond b (goes (record { rank = state.rank; head = state.head; left = state.left - 1 })) stops
 
-    pub unit-nobody : OwnerIs Layout elements j Nobody → stops ≡ unit_step state seen
+    pub unit-nobody : OwnerIs Layout elements j None → stops ≡ unit_step state seen
     unit-nobody never =
         let t : eqb 0 (suc state.head) ≡ false = ne_eqb 0 (suc state.head) (λ e. omega arith) in
         sym (ap (λ (k : ℕ). by_test (eqb k (suc state.head))) (none (layout_owner 0 elements unit) refl) ∙ ap by_test t)
@@ -107,7 +107,7 @@ module _ {s rows : List ℕ} {n : ℕ} {elements : List Element} (ready : RowsTe
         none zero e = e
         none (suc i) e = let (q, m) = (owner-match elements aside i j unit unit_there).0 e in absurd (never i q m)
 
-    module _ (row portion : ℕ) (own : OwnerIs Layout elements j (Of row portion)) where
+    module _ (row portion : ℕ) (own : OwnerIs Layout elements j (of row portion)) where
       owner-is : layout_owner 0 elements unit ≡ suc row
       owner-is = (owner-match elements aside row j unit unit_there).1 (portion, own)
 

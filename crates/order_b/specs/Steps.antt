@@ -1,26 +1,23 @@
 -- One step of the pass for class B, as the code takes it: the state and the step of order/specs/PassB, with that of a unit and that of another
 -- element apart.
-use Rattle.std.specs.Prelude.{ℕ, suc, ◌-◌, ◌≡◌, Bool, cond, not, ◌&&◌, List, map, eqb, leb, ltb, drop}
+use Rattle.std.specs.Prelude.{ℕ, suc, ◌-◌, ◌≡◌, Bool, cond, not, ◌&&◌, List, map, eqb, leb, ltb, drop, Option, Some, None}
 use Rattle.elements.specs.Judge.{Element}
 use Rattle.letters.specs.Telling.{RowsTell, element_at}
 use Rattle.order.specs.Represents.{profile_kind, LimitsAside}
 use Rattle.order.specs.Ranks.{rank_in}
 use Rattle.order.specs.ClassB.{rows_b, end_b}
 use Rattle.order.specs.PassB.{Sight, sight_of, StateB, StepB, goes, stops, start_b, can_come, pass_b}
-use Rattle.order.specs.declared.Fault.{Fault}
 use Rattle.order_b.specs.declared.State.{State}
-use Rattle.order_b.specs.declared.Step.{Step}
-use Rattle.order_b.specs.declared.Step.TheVariants.{Goes, Stops}
 
 abbrev pub state_of : State → StateB
 state_of s = record { rank = s.rank; head = s.head; left = s.left }
 
-abbrev pub step_of : Step → StepB
-step_of (Goes s) = goes (state_of s)
-step_of Stops = stops
+abbrev pub step_of : Option State → StepB
+step_of (Some s) = goes (state_of s)
+step_of None = stops
 
 -- a step is what is said of element j, whatever elements the rows tell
-abbrev pub StepIs : (s rows : List ℕ) → (n j : ℕ) → (Sight → StepB) → Step → Type 0
+abbrev pub StepIs : (s rows : List ℕ) → (n j : ℕ) → (Sight → StepB) → Option State → Type 0
 StepIs s rows n j said step =
     (elements : List Element) → RowsTell s rows n elements → LimitsAside elements → step_of step ≡ said (sight_of elements (element_at elements j))
 
@@ -41,7 +38,7 @@ abbrev pub head_step : StateB → (n : ℕ) → Sight → StepB
 head_step s n x = cond (may_follow s x.kind && can_come x) (goes (start_b n x)) stops
 
 -- the elements after the first, from a state
-abbrev pub PassIs : (s rows : List ℕ) → (n : ℕ) → StateB → Fault → Type 0
+abbrev pub PassIs : (s rows : List ℕ) → (n : ℕ) → StateB → Option ℕ → Type 0
 PassIs s rows n state found =
     (elements : List Element) → RowsTell s rows n elements → LimitsAside elements
     → found ≡ pass_b state 1 (map (sight_of elements) (drop 1 elements))

@@ -16,10 +16,8 @@ ghost use Rattle.elements.specs.declared.Edition.{Edition};
 ghost use Rattle.rows.specs.Index.{Filed};
 ghost use Rattle.order_b.specs.Steps.{state_of, StepIs, first_step, unit_step, may_follow, head_step, PassIs};
 
-use order::Fault;
-use owners::Owner;
 use reading::Side;
-use rows::{PROFILE, TEXT_UNIT};
+use rows::{LAYOUT_CLASS, LAYOUT_OBJECT, PROFILE, TEXT_UNIT};
 
 // The rank past the last: that of kinds with no place.
 const NO_RANK: usize = 7;
@@ -32,38 +30,21 @@ pub struct State {
     pub left: usize,
 }
 
-#[derive(Clone, Copy)]
-pub enum Step {
-    Goes(State),
-    Stops,
-}
-
 // The rank of a kind in the order of class B.
+#[tactic(auto, unfolding(order::specs::Ranks::rank_in))]
 fn rank_of(kind: usize) -> usize
     ensures { result ≡ rank_in rows_b kind }
 {
-    if kind == PROFILE {
-        return 0;
+    match kind {
+        PROFILE => 0,
+        LAYOUT_CLASS => 1,
+        7 => 2, // presentation styles
+        LAYOUT_OBJECT => 3,
+        9 => 4, // sealed profiles
+        10 => 5, // enciphered profiles
+        12 => 6, // post-enciphered parts
+        _ => NO_RANK,
     }
-    if kind == 1 {
-        return 1;
-    }
-    if kind == 7 {
-        return 2;
-    }
-    if kind == 2 {
-        return 3;
-    }
-    if kind == 9 {
-        return 4;
-    }
-    if kind == 10 {
-        return 5;
-    }
-    if kind == 12 {
-        return 6;
-    }
-    NO_RANK
 }
 
 // Whether what row j lists can come: it lists nothing, or it has an identifier.
@@ -71,31 +52,19 @@ fn can_come(rows: &[u32], j: usize, lists: usize) -> bool
     requires { j * scratch_width + scratch_width ≤ length rows.now }
     ensures { result ≡ (eqb lists 0 || there (span_at rows.now identifier_column j)) }
 {
-    if lists == 0 {
-        return true;
-    }
-    rows::is_named(rows, j)
+    lists == 0 || rows::is_named(rows, j)
 }
 
 // Whether an element of a kind that is no unit may stand next.
 fn may_follow(state: State, kind: usize) -> bool
     ensures { result ≡ may_follow (state_of state) kind }
 {
-    if state.left != 0 {
-        return false;
-    }
-    if kind == PROFILE {
-        return false;
-    }
     let rank = rank_of(kind);
-    if NO_RANK <= rank {
-        return false;
-    }
-    state.rank <= rank
+    state.left == 0 && kind != PROFILE && rank < NO_RANK && state.rank <= rank
 }
 
 // The first element: it must be the profile.
-fn first_step(s: &[u8], rows: &[u32], index: &[u16], n: usize) -> Step
+fn first_step(s: &[u8], rows: &[u32], index: &[u16], n: usize) -> Option<State>
     requires letter_rows { (edition : Edition) × LetterRows edition s.now rows.now n }
     requires filed { Filed s.now rows.now identifier_column index.now n }
     requires n_nonzero { 0 < n }
@@ -103,13 +72,13 @@ fn first_step(s: &[u8], rows: &[u32], index: &[u16], n: usize) -> Step
 {
     let kind = rows::kind_at(rows, 0);
     if kind != PROFILE {
-        return Step::Stops;
+        return None;
     }
     let left = owners::portions_of(s, rows, 0);
     if !can_come(rows, 0, left) {
-        return Step::Stops;
+        return None;
     }
-    Step::Goes(State {
+    Some(State {
         rank: rank_of(kind),
         head: 0,
         left,
@@ -117,29 +86,39 @@ fn first_step(s: &[u8], rows: &[u32], index: &[u16], n: usize) -> Step
 }
 
 // A text unit: it must represent a portion of the last element that is none.
-fn unit_step(s: &[u8], rows: &[u32], index: &[u16], n: usize, state: State, u: usize) -> Step
+fn unit_step(
+    s: &[u8],
+    rows: &[u32],
+    index: &[u16],
+    n: usize,
+    state: State,
+    u: usize,
+) -> Option<State>
     requires letter_rows { (edition : Edition) × LetterRows edition s.now rows.now n }
     requires filed { Filed s.now rows.now identifier_column index.now n }
     requires u_lt_n { u < n }
     ensures { StepIs s.now rows.now n u (unit_step (state_of state)) result }
 {
-    match owners::owner_of(s, rows, index, n, Side::Layout, u) {
-        Owner::Nobody => Step::Stops,
-        Owner::Of { row, portion: _ } => {
-            if row != state.head {
-                return Step::Stops;
-            }
-            Step::Goes(State {
-                rank: state.rank,
-                head: state.head,
-                left: order_a::without(state.left, 1),
-            })
-        }
+    let owner = owners::owner_of(s, rows, index, n, Side::Layout, u)?;
+    if owner.row != state.head {
+        return None;
     }
+    Some(State {
+        rank: state.rank,
+        head: state.head,
+        left: state.left.saturating_sub(1),
+    })
 }
 
 // Any other element: the head of those that follow.
-fn head_step(s: &[u8], rows: &[u32], index: &[u16], n: usize, state: State, j: usize) -> Step
+fn head_step(
+    s: &[u8],
+    rows: &[u32],
+    index: &[u16],
+    n: usize,
+    state: State,
+    j: usize,
+) -> Option<State>
     requires letter_rows { (edition : Edition) × LetterRows edition s.now rows.now n }
     requires filed { Filed s.now rows.now identifier_column index.now n }
     requires j_lt_n { j < n }
@@ -147,13 +126,13 @@ fn head_step(s: &[u8], rows: &[u32], index: &[u16], n: usize, state: State, j: u
 {
     let kind = rows::kind_at(rows, j);
     if !may_follow(state, kind) {
-        return Step::Stops;
+        return None;
     }
     let left = owners::portions_of(s, rows, j);
     if !can_come(rows, j, left) {
-        return Step::Stops;
+        return None;
     }
-    Step::Goes(State {
+    Some(State {
         rank: rank_of(kind),
         head: j,
         left,
@@ -161,53 +140,47 @@ fn head_step(s: &[u8], rows: &[u32], index: &[u16], n: usize, state: State, j: u
 }
 
 // One step of the pass.
-fn step_b(s: &[u8], rows: &[u32], index: &[u16], n: usize, state: State, j: usize) -> Step
+fn step_b(s: &[u8], rows: &[u32], index: &[u16], n: usize, state: State, j: usize) -> Option<State>
     requires letter_rows { (edition : Edition) × LetterRows edition s.now rows.now n }
     requires filed { Filed s.now rows.now identifier_column index.now n }
     requires j_lt_n { j < n }
     ensures { StepIs s.now rows.now n j (step_b (state_of state) j) result }
 {
     if rows::kind_at(rows, j) == TEXT_UNIT {
-        return unit_step(s, rows, index, n, state, j);
+        unit_step(s, rows, index, n, state, j)
+    } else {
+        head_step(s, rows, index, n, state, j)
     }
-    head_step(s, rows, index, n, state, j)
 }
 
 // The elements after the first, from the state that it left.
-fn pass(s: &[u8], rows: &[u32], index: &[u16], n: usize, start: State) -> Fault
+fn pass(s: &[u8], rows: &[u32], index: &[u16], n: usize, start: State) -> Option<usize>
     requires letter_rows { (edition : Edition) × LetterRows edition s.now rows.now n }
     requires filed { Filed s.now rows.now identifier_column index.now n }
     requires n_nonzero { 0 < n }
     ensures { PassIs s.now rows.now n (state_of start) result }
 {
     let mut state = start;
-    let mut j: usize = 1;
-    while j < n {
+    for j in 1..n {
         match step_b(s, rows, index, n, state, j) {
-            Step::Stops => return Fault::At(j),
-            Step::Goes(after) => {
-                state = after;
-                j += 1;
-            }
+            None => return Some(j),
+            Some(after) => state = after,
         }
     }
-    if state.left == 0 {
-        return Fault::Nowhere;
-    }
-    Fault::At(n)
+    if state.left == 0 { None } else { Some(n) }
 }
 
 // Where the elements of an accepted letter leave the order of class B.
-pub fn fault_b(s: &[u8], rows: &[u32], index: &[u16], n: usize) -> Fault
+pub fn fault_b(s: &[u8], rows: &[u32], index: &[u16], n: usize) -> Option<usize>
     requires letter_rows { (edition : Edition) × LetterRows edition s.now rows.now n }
     requires filed { Filed s.now rows.now identifier_column index.now n }
     ensures { FaultIn B s.now rows.now n result }
 {
     if n == 0 {
-        return Fault::At(0);
+        return Some(0);
     }
     match first_step(s, rows, index, n) {
-        Step::Stops => Fault::At(0),
-        Step::Goes(start) => pass(s, rows, index, n, start),
+        None => Some(0),
+        Some(start) => pass(s, rows, index, n, start),
     }
 }

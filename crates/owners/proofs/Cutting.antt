@@ -1,18 +1,18 @@
 -- An identifier that is cut at its last space: what stands before it, the space, and what stands after it, in which there is none.
 use mathlib.Core.Path.{◌≡◌, refl, ap, sym, ◌∙◌}
 use mathlib.Core.List.{List, [], ◌∷◌, ◌++◌}
-use Prim.Native.Nat.{ℕ, ◌+◌, ◌<◌, ◌≤◌}
+use Prim.Native.Nat.{ℕ, ◌+◌, ◌≤◌}
 use native.Mathlib.Omega.{arith}
 use lib.Dec.{eqb}
 use lib.ListN.{length, get_or}
 use lib.Seq.{slice}
-use borrow.Author.Tests.{eqb-true, lt-ltb}
+use borrow.Author.Tests.{eqb-true}
 use borrow.Table.Steps.{cases}
 use Rattle.names.specs.Names.{space_byte}
 use Rattle.names.proofs.Parts.{slice_cut}
 use Rattle.contents.specs.Search.{Value, absent, octets}
 use Rattle.parents.specs.Parent.{in_front, shorter}
-use Rattle.parents.specs.Lookup.{LastSpace}
+use Rattle.parents.specs.Lookup.{CutAt}
 
 pub record Cut (whole front : List ℕ) : Type 0 where
   pub after : List ℕ
@@ -42,15 +42,16 @@ pub same_after : (xs ys zs : List ℕ) → xs ++ ys ≡ xs ++ zs → ys ≡ zs
 same_after [] ys zs e = e
 same_after (x ∷ xs) ys zs e = let f : xs ++ ys ≡ xs ++ zs = cc in same_after xs ys zs f
 
-module _ {s : List ℕ} {first past at : ℕ} (last : LastSpace s first past at) (before : at < past) (inside : past ≤ length s) where
+module _ {s : List ℕ} {first past at : ℕ} (last : CutAt s first past at) (inside : past ≤ length s) where
   pub front_is : shorter (slice first past s) ≡ octets (slice first at s)
-  front_is = last.cuts ∙ rw (lt-ltb at past before)
+  front_is = last.cuts
 
   pub parts_are : slice first past s ≡ slice first at s ++ space_byte ∷ slice (at + 1) past s
   parts_are =
       let c = cut-told (slice first past s) (slice first at s) front_is in
       let e : get_or s at 0 ∷ slice (at + 1) past s ≡ space_byte ∷ c.after =
-      same_after (slice first at s) (get_or s at 0 ∷ slice (at + 1) past s) (space_byte ∷ c.after) (sym (slice_cut s first at past last.after before inside)
+      same_after (slice first at s) (get_or s at 0 ∷ slice (at + 1) past s) (space_byte ∷ c.after)
+      (sym (slice_cut s first at past last.after last.before inside)
       ∙ c.spelt) in
       let f : c.after ≡ slice (at + 1) past s = cc in
       c.spelt ∙ ap (λ (l : List ℕ). slice first at s ++ space_byte ∷ l) f

@@ -9,7 +9,7 @@ use native.Mathlib.Omega.{arith}
 use lib.Dec.{leb}
 use lib.ListN.{length, get_elem?}
 use lib.Seq.{slice}
-use borrow.Author.Tests.{lt-ltb, le-ltb}
+use borrow.Author.Tests.{lt-ltb}
 use borrow.Table.Steps.{cases}
 use Rattle.headers.specs.Head.{is_in}
 use Rattle.names.specs.Names.{space_byte, longest_portion, all_digits, is_portion}
@@ -31,12 +31,12 @@ use Rattle.reading.proofs.OnePlace.{portion-spelt}
 use Rattle.reading.proofs.Single.{side-space}
 use Rattle.reading.proofs.Matches.{matches-are, matches-all}
 use Rattle.parents.specs.Parent.{shorter}
-use Rattle.parents.specs.Lookup.{object_space, LastSpace}
+use Rattle.parents.specs.Lookup.{object_space, CutAt}
 use Rattle.parents.proofs.Shorter.{shorter-at, digits-whole}
 use Rattle.parents.proofs.Finding.{one-carrier}
 use Rattle.owners.specs.declared.Owner.{Owner}
-use Rattle.owners.specs.declared.Owner.TheVariants.{Nobody, Of}
-use Rattle.owners.specs.Owner.{match_of, OwnerIs, listed_at, owner_among, owner_by}
+use Rattle.std.specs.Prelude.{Option, None}
+use Rattle.owners.specs.Owner.{match_of, of, OwnerIs, listed_at, owner_among, owner_by}
 use Rattle.owners.proofs.Among.{Finding, at, nowhere, among-tells}
 use Rattle.owners.proofs.Cutting.{same_after, front_is, parts_are}
 
@@ -52,7 +52,7 @@ module _ {s rows : List ℕ} {n : ℕ} {elements : List Element} (ready : RowsTe
   past = past_at rows (column_of side) u
 
   -- a row that is no text unit
-  pub no-unit : (kind_at rows u ≡ unit_kind → ⊥) → OwnerIs side elements u Nobody
+  pub no-unit : (kind_at rows u ≡ unit_kind → ⊥) → OwnerIs side elements u None
   no-unit other e p m =
       let i = matches-are side elements (match_of e p u) m in
       other ((ready.tells u i.unit i.unit_there).kind ∙ i.joined.of_unit)
@@ -74,15 +74,13 @@ module _ {s rows : List ℕ} {n : ℕ} {elements : List Element} (ready : RowsTe
         (portion-whole i.portion (portion-spelt i.element (ready.apart.spelt e i.element i.element_there) p i.portion i.portion_there))
 
   -- an identifier of one group
-  pub one-group : {cut : ℕ} → LastSpace s first past cut → cut ≡ past → OwnerIs side elements u Nobody
-  one-group {cut} last end e p m =
+  pub one-group : shorter (slice first past s) ≡ absent → OwnerIs side elements u None
+  one-group none e p m =
       let i = matches-are side elements (match_of e p u) m in
-      let none : shorter (slice first past s) ≡ absent = last.cuts ∙ rw (le-ltb cut past (omega arith)) in
       let f : absent ≡ octets i.joined.identifier = sym none ∙ name-shorter i in
-      let z : ◌≡◌ {A = ℕ} 0 1 = cc in
-      omega arith
+      cc
 
-  module _ {cut : ℕ} (last : LastSpace s first past cut) (before : cut < past) (inside : past ≤ length s) where
+  module _ {cut : ℕ} (last : CutAt s first past cut) (inside : past ≤ length s) where
     abbrev front : List ℕ
     front = slice first cut s
 
@@ -95,12 +93,12 @@ module _ {s rows : List ℕ} {n : ℕ} {elements : List Element} (ready : RowsTe
     -- a record of the unit is of an element with the name before the space, and of the portion after it
     module _ {e p : ℕ} (i : IsMatch side elements (match_of e p u)) where
       same-front : i.joined.identifier ≡ front
-      same-front = let f : octets i.joined.identifier ≡ octets front = sym (name-shorter i) ∙ front_is last before inside in cc
+      same-front = let f : octets i.joined.identifier ≡ octets front = sym (name-shorter i) ∙ front_is last inside in cc
 
       same-portion : i.portion ≡ after
       same-portion =
           let a : front ++ space_byte ∷ i.portion ≡ front ++ space_byte ∷ after =
-          ap (λ (l : List ℕ). l ++ space_byte ∷ i.portion) (sym same-front) ∙ sym (name-bytes i) ∙ parts_are last before inside in
+          ap (λ (l : List ℕ). l ++ space_byte ∷ i.portion) (sym same-front) ∙ sym (name-bytes i) ∙ parts_are last inside in
           let b : space_byte ∷ i.portion ≡ space_byte ∷ after = same_after front (space_byte ∷ i.portion) (space_byte ∷ after) a in
           cc
 
@@ -122,7 +120,7 @@ module _ {s rows : List ℕ} {n : ℕ} {elements : List Element} (ready : RowsTe
           }
 
     -- nobody carries that name
-    pub no-carrier : ((k : ℕ) → HasFront k → ⊥) → OwnerIs side elements u Nobody
+    pub no-carrier : ((k : ℕ) → HasFront k → ⊥) → OwnerIs side elements u None
     no-carrier never e p m = never e (has-front (matches-are side elements (match_of e p u) m))
 
     module _ (row : ℕ) (has : HasFront row) where
@@ -150,7 +148,7 @@ module _ {s rows : List ℕ} {n : ℕ} {elements : List Element} (ready : RowsTe
           let f : some i.element ≡ some carrier = sym i.element_there ∙ ap (get_elem? elements) (same_row i) ∙ carrier-there in
           cc
 
-      other-side : is_in (kind_at rows row) (kinds_of side) ≡ false → OwnerIs side elements u Nobody
+      other-side : is_in (kind_at rows row) (kinds_of side) ≡ false → OwnerIs side elements u None
       other-side t e p m =
           let i = matches-are side elements (match_of e p u) m in
           let k : i.element.kind ≡ kind_at rows row = ap (λ (x : Element). x.kind) (same-element i) ∙ sym told.kind in
@@ -169,7 +167,7 @@ module _ {s rows : List ℕ} {n : ℕ} {elements : List Element} (ready : RowsTe
         -- a portion that has the octets after the space makes the record
         a-record : (place : ℕ) → get_elem? (listed_at s rows row) place ≡ some after → IsMatch side elements (match_of row place u)
         a-record place there =
-            let first-before : first < past = omega (arith, last.after) in
+            let first-before : first < past = omega (arith, last.after, last.before) in
             record {
               element = carrier;
               portion = after;
@@ -182,15 +180,15 @@ module _ {s rows : List ℕ} {n : ℕ} {elements : List Element} (ready : RowsTe
                 of_unit = sym unit-told.kind ∙ of_unit;
                 identifier = front;
                 named = carrier-named;
-                spelt = name-told side unit unit-told ∙ rw (lt-ltb first past first-before) (ap octets (parts_are last before inside));
+                spelt = name-told side unit unit-told ∙ rw (lt-ltb first past first-before) (ap octets (parts_are last inside));
               };
             }
 
-        by-finding : (owner : Owner) → Finding row 0 (listed_at s rows row) after owner → OwnerIs side elements u owner
+        by-finding : (owner : Option Owner) → Finding row 0 (listed_at s rows row) after owner → OwnerIs side elements u owner
         by-finding owner (at f) =
             let z : 0 + f.place ≡ f.place = omega arith in
             subst (OwnerIs side elements u) (sym (f.is
-            ∙ ap (Of row) z)) (matches-all side elements (match_of row f.place u) (a-record f.place f.there))
+            ∙ ap (of row) z)) (matches-all side elements (match_of row f.place u) (a-record f.place f.there))
         by-finding owner (nowhere none never) =
             subst (OwnerIs side elements u) (sym none) (λ e p m.
             let i = matches-are side elements (match_of e p u) m in

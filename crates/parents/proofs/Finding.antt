@@ -1,23 +1,21 @@
 -- What the look-up of the shorter identifier yields is the parent: a row has it exactly when its element carries it, and no two classes or objects
 -- share an identifier.
+use Rattle.std.specs.Prelude.{Option, Some, None}
 use mathlib.Core.Path.{◌≡◌, refl, ap, sym, ◌∙◌}
-use mathlib.Core.Bool.{true, false, cond, false≢true, true≢false, and-eq-true_iff}
+use mathlib.Core.Bool.{true, false, false≢true, true≢false, and-eq-true_iff}
 use mathlib.Core.List.{List}
 use mathlib.Core.Option.{none, some}
-use Prim.Native.Nat.{ℕ, ◌*◌, ◌<◌, ◌≤◌}
+use Prim.Native.Nat.{ℕ, ◌<◌, ◌≤◌}
 use native.Mathlib.Omega.{arith}
-use lib.Dec.{ltb}
-use lib.ListN.{length, get_elem?}
+use lib.ListN.{get_elem?}
 use lib.Seq.{slice}
-use borrow.Author.Tests.{lt-ltb, le-ltb}
+use borrow.Author.Tests.{lt-ltb}
 use borrow.Table.Steps.{cases}
 use Rattle.headers.specs.Head.{is_in}
 use Rattle.names.proofs.Same.{same-eq, same_refl}
 use Rattle.contents.specs.declared.Span.{Span}
 use Rattle.contents.specs.Search.{Value, absent, octets}
-use Rattle.rows.specs.declared.RowFound.{RowFound}
-use Rattle.rows.specs.declared.RowFound.TheVariants.{At, Nothing}
-use Rattle.rows.specs.Rows.{scratch_width, name_space_of}
+use Rattle.rows.specs.Rows.{name_space_of}
 use Rattle.rows.specs.Columns.{identifier_column, kind_at, first_at, past_at}
 use Rattle.rows.specs.Chains.{Has, FindsRow}
 use Rattle.elements.specs.Judge.{Element, shares, most_elements}
@@ -31,9 +29,9 @@ use Rattle.rows.specs.Columns.{span_at}
 use Rattle.reading.proofs.Looking.{name-there}
 use Rattle.reading.proofs.OnePlace.{one-element}
 use Rattle.reading.proofs.Single.{side-space, clash-identifier}
-use Rattle.parents.specs.Parent.{shorter_of, parent_kinds, is_parent_of, first_row, parent, no_parent, row_or_none}
-use Rattle.parents.specs.Lookup.{object_space, LastSpace, FoundIn, on_side}
-use Rattle.parents.proofs.Shorter.{name-shorter}
+use Rattle.parents.specs.Parent.{shorter, shorter_of, parent_kinds, is_parent_of, first_row, parent, no_parent, row_or_none}
+use Rattle.parents.specs.Lookup.{object_space, CutAt, on_side}
+use Rattle.parents.proofs.Shorter.{name-cut, name-whole}
 use Rattle.parents.proofs.Firsts.{first-none, first_one}
 
 -- both kinds are of one side
@@ -144,7 +142,7 @@ module _ {s rows : List ℕ} {n : ℕ} {elements : List Element} (ready : RowsTe
         tells.identifier ∙ rw (lt-ltb (first_at rows identifier_column k) (past_at rows identifier_column k) has.present) (ap octets has.of_bytes),
       )
 
-  found-there : (row : ℕ) → HasName row → on_side rows child.kind (At row) ≡ row_or_none (first_row (is_parent_of child) elements)
+  found-there : (row : ℕ) → HasName row → on_side rows child.kind (Some row) ≡ row_or_none (first_row (is_parent_of child) elements)
   unfolding has_named parent_named
   found-there row has =
       let (x, there) = at-below elements row (omega (arith, has.below, ready.counted)) in
@@ -172,23 +170,18 @@ module _ {s rows : List ℕ} {n : ℕ} {elements : List Element} (ready : RowsTe
   found_nowhere never = first-none (is_parent_of child) elements (λ k x there t. never k (passes-has k x there t))
 
   -- the row that was found, if it is of the side, is the parent's
-  pub found-parent : (found : RowFound) → FindsRow s rows identifier_column n object_space bytes found
+  pub found-parent : (found : Option ℕ) → FindsRow s rows identifier_column n object_space bytes found
       → on_side rows child.kind found ≡ row_or_none (first_row (is_parent_of child) elements)
-  found-parent (At row) finds = found-there row finds.0
-  found-parent Nothing finds = rw (found_nowhere finds)
+  found-parent (Some row) finds = found-there row finds.0
+  found-parent None finds = rw (found_nowhere finds)
 
--- a row that was found is one of the rows, and no row has the number of none
-pub found_in : (s rows : List ℕ) (n : ℕ) (bytes : List ℕ) (found : RowFound) → FindsRow s rows identifier_column n object_space bytes found
-    → n * scratch_width ≤ length rows → FoundIn rows found
-found_in s rows n bytes (At row) finds l = omega (arith, finds.0.below)
-found_in s rows n bytes Nothing finds l = tt
-
-pub side-small : (s rows : List ℕ) (n : ℕ) (bytes : List ℕ) (found : RowFound) → FindsRow s rows identifier_column n object_space bytes found
+-- a row that was found has no greater number than that of none
+pub side-small : (s rows : List ℕ) (n : ℕ) (bytes : List ℕ) (found : Option ℕ) → FindsRow s rows identifier_column n object_space bytes found
     → n ≤ most_elements → (kind : ℕ) → on_side rows kind found ≤ no_parent
-side-small s rows n bytes (At row) finds l kind =
+side-small s rows n bytes (Some row) finds l kind =
     let below : row < n = finds.0.below in
     cases (is_in (kind_at rows row) (parent_kinds kind)) (λ t. rw t (omega arith)) (λ t. rw t (omega arith))
-side-small s rows n bytes Nothing finds l kind = omega arith
+side-small s rows n bytes None finds l kind = omega arith
 
 -- the parent of row j, by what the code finds
 module _ {s rows : List ℕ} {n : ℕ} {elements : List Element} (ready : RowsTell s rows n elements) (j : ℕ) (below : j < n) where
@@ -201,29 +194,25 @@ module _ {s rows : List ℕ} {n : ℕ} {elements : List Element} (ready : RowsTe
       let none : first_row (is_parent_of child) elements ≡ none = none-of-kind elements child (rw kind at e) in
       rw (there, none)
 
-  module _ (first past at : ℕ) (first-is : first ≡ first_at rows identifier_column j) (past_is : past ≡ past_at rows identifier_column j)
-      (last : LastSpace s first past at) where
-    shortened : (child : Element) → get_elem? elements j ≡ some child → shorter_of child.identifier ≡ cond (ltb at past) (octets (slice first at s)) absent
-    shortened child there =
-        let pair : span_at rows identifier_column j ≡ record { first = first; past = past } = rw (first-is, past_is) in
-        ap shorter_of (ready.tells j child there).identifier ∙ ap (λ (p : Span). shorter_of (name_in s p)) pair ∙ name-shorter last
+  module _ (name : Span) (is : name ≡ span_at rows identifier_column j) where
+    shortened : (child : Element) → get_elem? elements j ≡ some child → shorter_of child.identifier ≡ shorter_of (name_in s name)
+    shortened child there = ap shorter_of (ready.tells j child there).identifier ∙ ap (λ (p : Span). shorter_of (name_in s p)) (sym is)
 
     -- "where there is no identifier, it has one group"
-    pub parent-one-group : at ≡ past → no_parent ≡ row_or_none (parent elements j)
+    pub parent-one-group : shorter (slice name.first name.past s) ≡ absent → no_parent ≡ row_or_none (parent elements j)
     unfolding parent
     parent-one-group e =
         let (child, there) = at-below elements j (omega (arith, ready.counted)) in
-        let t : ltb at past ≡ false = le-ltb at past (omega arith) in
-        let none : first_row (is_parent_of child) elements ≡ none = none-shorter elements child (shortened child there ∙ rw t) in
+        let none : first_row (is_parent_of child) elements ≡ none = none-shorter elements child (shortened child there ∙ name-whole s name.first name.past e) in
         rw (there, none)
 
     -- "or nobody carries the shorter one"
-    pub parent-found : (at ≡ past → ⊥) → (found : RowFound) → FindsRow s rows identifier_column n object_space (slice first at s) found
+    pub parent-found : {at : ℕ} → CutAt s name.first name.past at → (found : Option ℕ)
+        → FindsRow s rows identifier_column n object_space (slice name.first at s) found
         → (kind : ℕ) → kind ≡ kind_at rows j → on_side rows kind found ≡ row_or_none (parent elements j)
     unfolding parent
-    parent-found ne found finds kind kind-is =
+    parent-found {at} last found finds kind kind-is =
         let (child, there) = at-below elements j (omega (arith, ready.counted)) in
-        let t : ltb at past ≡ true = lt-ltb at past (omega (arith, ne, last.before)) in
-        let e : shorter_of child.identifier ≡ octets (slice first at s) = shortened child there ∙ rw t in
+        let e : shorter_of child.identifier ≡ octets (slice name.first at s) = shortened child there ∙ name-cut last in
         let k : kind ≡ child.kind = kind-is ∙ (ready.tells j child there).kind in
-        rw (there, k) (found-parent ready child (slice first at s) e found finds)
+        rw (there, k) (found-parent ready child (slice name.first at s) e found finds)

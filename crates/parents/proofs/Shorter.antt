@@ -1,20 +1,20 @@
 -- An identifier without its last group: what is before the last space, wherever it was found; and of a well spelt one, that a space and digits are
 -- what is taken off.
 use mathlib.Core.Path.{◌≡◌, refl, ap, sym, ◌∙◌}
-use mathlib.Core.Bool.{Bool, true, false, cond, ◌&&◌, false≢true, and-eq-true_iff}
+use mathlib.Core.Bool.{Bool, true, false, ◌&&◌, false≢true, and-eq-true_iff}
 use mathlib.Core.List.{List, [], ◌∷◌, ◌++◌}
-use Prim.Native.Nat.{ℕ, ◌≤◌}
+use Prim.Native.Nat.{ℕ, ◌<◌, ◌≤◌}
 use native.Mathlib.Omega.{arith}
 use lib.Dec.{eqb, ltb}
 use lib.ListN.{length}
 use lib.Seq.{slice}
-use borrow.Author.Tests.{eqb-true, ltb-false, le-ltb}
+use borrow.Author.Tests.{eqb-true, lt-ltb}
 use borrow.Table.Steps.{cases}
 use Rattle.names.specs.Names.{space_byte, is_digit, grouped, all_digits}
 use Rattle.contents.specs.Search.{Value, absent, octets}
 use Rattle.letters.specs.Telling.{name_in}
 use Rattle.parents.specs.Parent.{in_front, shorter, shorter_of}
-use Rattle.parents.specs.Lookup.{LastSpace}
+use Rattle.parents.specs.Lookup.{CutAt}
 
 -- what is before the last space
 pub shorter-at : (xs ys : List ℕ) → shorter ys ≡ absent → shorter (xs ++ space_byte ∷ ys) ≡ octets xs
@@ -46,16 +46,14 @@ digits-whole (y ∷ ys) d =
     let no : eqb y space_byte ≡ false = cases (eqb y space_byte) (λ t. absurd (digit-space y a.0 t)) (λ t. t) in
     rw (rest, no)
 
--- of a name that a pair bounds, by where its last space stands
-pub name-shorter : {s : List ℕ} {first past at : ℕ} → LastSpace s first past at
-    → shorter_of (name_in s (record { first = first; past = past })) ≡ cond (ltb at past) (octets (slice first at s)) absent
-name-shorter {s} {first} {past} {at} l =
-    cases (ltb first past)
-    (λ t. rw t l.cuts)
-    (λ t.
-    let none = ltb-false first past t in
-    let last : ltb at past ≡ false = le-ltb at past (omega (arith, l.after, l.before)) in
-    rw (t, last))
+-- of a name that a pair bounds, by where its last space stands, if it has one
+pub name-cut : {s : List ℕ} {first past at : ℕ} → CutAt s first past at
+    → shorter_of (name_in s (record { first = first; past = past })) ≡ octets (slice first at s)
+name-cut {s} {first} {past} l = let some : first < past = omega (arith, l.after, l.before) in rw (lt-ltb _ _ some) l.cuts
+
+pub name-whole : (s : List ℕ) (first past : ℕ) → shorter (slice first past s) ≡ absent
+    → shorter_of (name_in s (record { first = first; past = past })) ≡ absent
+name-whole s first past e = cases (ltb first past) (λ t. rw t e) (λ t. rw t)
 
 -- what is taken off a well spelt identifier
 pub record Off (whole front : List ℕ) : Type 0 where

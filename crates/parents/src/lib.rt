@@ -1,7 +1,7 @@
 // Whose child an element is: the row of the class or object whose identifier is its own without the last group.
 #![tactic(auto)]
 
-ghost use Rattle.std.specs.Prelude.{◌≡◌, ◌+◌, ◌*◌, ◌<◌, ◌≤◌, length};
+ghost use Rattle.std.specs.Prelude.{◌≡◌, ◌<◌, ◌≤◌, length};
 ghost use Rattle.std.proofs.Math.Seq.{slice};
 ghost use Rattle.headers.specs.Head.{is_in};
 ghost use Rattle.rows.specs.Columns.{identifier_column, Bounded};
@@ -14,19 +14,10 @@ ghost use Rattle.parents.specs.Parent.{parent_kinds};
 ghost use Rattle.parents.specs.Lookup.{object_space, LastSpace, FoundIn, on_side, ParentAt};
 
 use names::{Asked, SPACE};
-use rows::{
-    IDENTIFIER, LAYOUT_CLASS, LAYOUT_OBJECT, LOGICAL_CLASS, LOGICAL_OBJECT, OBJECTS, RowFound,
-    SCRATCH_WIDTH,
-};
+use rows::{IDENTIFIER, LAYOUT_CLASS, LAYOUT_OBJECT, LOGICAL_CLASS, LOGICAL_OBJECT, OBJECTS};
 
-// Stands for no row where a parent's row is told.
+// Stands for no row where a parent's row is told: a number, as a parent's row is one of the lent table's numbers.
 pub const NO_PARENT: usize = 65535;
-
-fn wide(x: u32) -> usize
-    ensures { result ≡ x }
-{
-    x as usize
-}
 
 // Whether an element of one kind may be the parent of one of another.
 fn is_parent_kind(kind: usize, other: usize) -> bool
@@ -41,19 +32,17 @@ fn is_parent_kind(kind: usize, other: usize) -> bool
     false
 }
 
-// Where the last space of s[first..past] stands, or past if it has none.
-pub fn last_space(s: &[u8], first: usize, past: usize) -> usize
+// Where the last space of s[first..past] stands, if it has one.
+pub fn last_space(s: &[u8], first: usize, past: usize) -> Option<usize>
     requires { (first ≤ past) × (past ≤ length s.now) }
     ensures { LastSpace s.now first past result }
 {
-    let mut at = past;
-    while first < at {
-        at -= 1;
+    for at in (first..past).rev() {
         if s[at] == SPACE {
-            return at;
+            return Some(at);
         }
     }
-    past
+    None
 }
 
 // The class or object whose identifier is s[first..past].
@@ -64,36 +53,26 @@ pub fn carrier(
     n: usize,
     first: usize,
     past: usize,
-) -> RowFound
+) -> Option<usize>
     requires bounded { Bounded s.now rows.now identifier_column n }
     requires filed { Filed s.now rows.now identifier_column index.now n }
     requires first_le_past { (first ≤ past) × (past ≤ length s.now) }
     ensures { FindsRow s.now rows.now identifier_column n object_space (slice first past s.now) result }
 {
-    let asked = Asked {
-        first,
-        past,
-        joined: false,
-        from: first,
-        to: past,
-    };
-    let hashed = names::hash_over(s, first, past, 0);
+    let front = &s[first..past];
+    let asked = Asked { front, back: None };
+    let hashed = names::hash_over(front, 0);
     rows::find(s, rows, index, n, IDENTIFIER, OBJECTS, hashed, asked)
 }
 
 // The row that was found, if its element may be the parent of one of this kind.
-fn own_side(rows: &[u32], kind: usize, found: RowFound) -> usize
+fn own_side(rows: &[u32], kind: usize, found: Option<usize>) -> usize
     requires { FoundIn rows.now found }
     ensures { result ≡ on_side rows.now kind found }
 {
     match found {
-        RowFound::Nothing => NO_PARENT,
-        RowFound::At(row) => {
-            if is_parent_kind(kind, wide(rows[row * SCRATCH_WIDTH])) {
-                return row;
-            }
-            NO_PARENT
-        }
+        Some(row) if is_parent_kind(kind, rows::kind_at(rows, row)) => row,
+        _ => NO_PARENT,
     }
 }
 
@@ -104,16 +83,13 @@ pub fn parent_of(s: &[u8], rows: &[u32], index: &[u16], n: usize, j: usize) -> u
     requires j_lt_n { (j < n) × (n ≤ most_elements) }
     ensures { ParentAt s.now rows.now n j result }
 {
-    let at = j * SCRATCH_WIDTH;
-    let kind = wide(rows[at]);
+    let kind = rows::kind_at(rows, j);
     if !is_parent_kind(kind, kind) {
         return NO_PARENT;
     }
-    let first = wide(rows[at + IDENTIFIER]);
-    let past = wide(rows[at + IDENTIFIER + 1]);
-    let cut = last_space(s, first, past);
-    if cut == past {
+    let name = rows::bounds_at(rows, j, IDENTIFIER);
+    let Some(cut) = last_space(s, name.first, name.past) else {
         return NO_PARENT;
-    }
-    own_side(rows, kind, carrier(s, rows, index, n, first, cut))
+    };
+    own_side(rows, kind, carrier(s, rows, index, n, name.first, cut))
 }

@@ -8,7 +8,7 @@ ghost use Rattle.headers.specs.Head.{constructed};
 ghost use Rattle.runs.specs.Runs.{tree_in, Fine};
 ghost use Rattle.pieces.specs.Pieces.{only_pieces, joined};
 
-use runs::{Met, Run};
+use runs::Run;
 
 // Whether a run holds items with the octet of a piece, and constructed ones that hold such items, and nothing else, at every level.
 // Another item among the pieces is refused by 12.
@@ -17,55 +17,35 @@ pub fn are_pieces(s: &[u8], r: Run, piece: usize, pieces: usize) -> bool
     ensures { result ≡ only_pieces piece pieces (tree_in s.now r) }
 {
     let mut cur = r;
-    loop {
-        match runs::meet(s, cur) {
-            Met::End => return true,
-            Met::Item {
-                code,
-                first: _,
-                past: _,
-                inner,
-                rest,
-            } => {
-                cur = rest;
-                if code == pieces {
-                    if !are_pieces(s, inner, piece, pieces) {
-                        return false;
-                    }
-                } else if code != piece {
-                    return false;
-                }
+    while let Some(item) = runs::meet(s, cur) {
+        cur = item.rest;
+        if item.code == pieces {
+            if !are_pieces(s, item.inner, piece, pieces) {
+                return false;
             }
+        } else if item.code != piece {
+            return false;
         }
     }
+    true
 }
 
-// How many octets the pieces of a run have in all.
+// How many octets the pieces of a run have in all. To count is not to put into an output that is thrown away: it needs none, and no room can lack.
 pub fn joined_length(s: &[u8], r: Run) -> usize
     requires { Fine s.now r }
     ensures { result ≡ length (joined (tree_in s.now r)) }
 {
     let mut cur = r;
     let mut n: usize = 0;
-    loop {
-        match runs::meet(s, cur) {
-            Met::End => return n,
-            Met::Item {
-                code,
-                first,
-                past,
-                inner,
-                rest,
-            } => {
-                cur = rest;
-                if code / 32 % 2 == 1 {
-                    n = n + joined_length(s, inner);
-                } else {
-                    n = n + (past - first);
-                }
-            }
+    while let Some(item) = runs::meet(s, cur) {
+        cur = item.rest;
+        if item.code / 32 % 2 == 1 {
+            n += joined_length(s, item.inner);
+        } else {
+            n += item.past - item.first;
         }
     }
+    n
 }
 
 // Copies `from` to the start of `to`, and says how many octets that are. What `to` has past them stays.
@@ -87,23 +67,13 @@ pub fn put_joined(s: &[u8], r: Run, out: &mut [u8]) -> usize
 {
     let mut cur = r;
     let mut done: usize = 0;
-    loop {
-        match runs::meet(s, cur) {
-            Met::End => return done,
-            Met::Item {
-                code,
-                first,
-                past,
-                inner,
-                rest,
-            } => {
-                cur = rest;
-                if code / 32 % 2 == 1 {
-                    done = done + put_joined(s, inner, &mut out[done..]);
-                } else {
-                    done = done + copy(&s[first..past], &mut out[done..]);
-                }
-            }
+    while let Some(item) = runs::meet(s, cur) {
+        cur = item.rest;
+        if item.code / 32 % 2 == 1 {
+            done += put_joined(s, item.inner, &mut out[done..]);
+        } else {
+            done += copy(&s[item.first..item.past], &mut out[done..]);
         }
     }
+    done
 }

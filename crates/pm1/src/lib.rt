@@ -6,13 +6,15 @@ ghost use Rattle.std.specs.Prelude.{◌≡◌, [], ◌∷◌, ◌+◌, ◌*◌, 
 ghost use Rattle.std.proofs.lemmas.List.Edits.{sets};
 ghost use Rattle.runs.specs.Runs.{tree_in, Fine};
 ghost use Rattle.answers.specs.Table.{table_width};
+ghost use Rattle.measures.specs.Verdicts.{number_of};
 ghost use Rattle.pm1.specs.Pages.{is_page, page_width, page_numbers};
 ghost use Rattle.pm1.specs.Answers.{PagesOutcome};
 ghost use Rattle.pm1.specs.ByTable.{kind_at, object_at, page_at, pages_by, pages_among, Puts, Ready};
 
 use answers::TABLE_WIDTH;
+use measures::Verdict;
 pub use odif::Edition;
-use runs::{Met, Run};
+use runs::Run;
 
 const LIST_TOO_SHORT: u32 = 30;
 
@@ -44,13 +46,7 @@ fn is_page(table: &[u32], j: usize) -> bool
 {
     let at = j * TABLE_WIDTH;
     let kind = table[at];
-    if table[at + 1] != PAGE {
-        return false;
-    }
-    if kind == LAYOUT_CLASS {
-        return true;
-    }
-    kind == LAYOUT_OBJECT
+    table[at + 1] == PAGE && (kind == LAYOUT_CLASS || kind == LAYOUT_OBJECT)
 }
 
 // How many of the first rows of a finished table are pages and page classes.
@@ -58,12 +54,9 @@ fn count_pages(table: &[u32], elements: usize) -> usize
     requires { (elements ≤ 4096) × (elements * table_width ≤ length table.now) }
     ensures { (result ≡ pages_among table.now 0 elements) × (result ≤ elements) }
 {
-    let mut j: usize = 0;
     let mut count: usize = 0;
-    while j < elements {
-        let page = is_page(table, j);
-        j += 1;
-        if page {
+    for j in 0..elements {
+        if is_page(table, j) {
             count += 1;
         }
     }
@@ -71,13 +64,13 @@ fn count_pages(table: &[u32], elements: usize) -> usize
 }
 
 // Puts the two numbers of record k in their place.
-fn put_page(list: &mut [u32], k: usize, element: usize, verdict: usize)
-    requires { (page_width * k + page_width ≤ length list.old) × (element < 4096) × (verdict ≤ 4) }
-    ensures { list.new ≡ sets list.old (page_width * k) (element ∷ verdict ∷ []) }
+fn put_page(list: &mut [u32], k: usize, element: usize, verdict: Verdict)
+    requires { (page_width * k + page_width ≤ length list.old) × (element < 4096) }
+    ensures { list.new ≡ sets list.old (page_width * k) (element ∷ number_of verdict ∷ []) }
 {
     let at = PAGE_WIDTH * k;
     list[at] = element as u32;
-    list[at + 1] = verdict as u32;
+    list[at + 1] = verdict.into();
 }
 
 // Puts the record of an element after so many, if it is a page, and says how many there are then.
@@ -109,21 +102,10 @@ fn put_pages(stream: &[u8], table: &[u32], list: &mut [u32])
     let mut left = runs::whole_stream(stream);
     let mut element: usize = 0;
     let mut count: usize = 0;
-    loop {
-        match runs::meet(stream, left) {
-            Met::End => return,
-            Met::Item {
-                code: _,
-                first: _,
-                past: _,
-                inner,
-                rest,
-            } => {
-                count = put_element(stream, inner, table, element, list, count);
-                element += 1;
-                left = rest;
-            }
-        }
+    while let Some(item) = runs::meet(stream, left) {
+        count = put_element(stream, item.inner, table, element, list, count);
+        element += 1;
+        left = item.rest;
     }
 }
 

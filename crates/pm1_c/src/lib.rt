@@ -1,5 +1,5 @@
 // The names for C of the PM1 desk, and nothing else: the static library of this crate is `libpm1.a`. The header's `pm1_pages` and its twin of 1993
-// hand their list to these as numbers. A slice is a pointer and a length; a null pointer with length 0 is fine.
+// hand their list to these as numbers. The two names are twins since they are the C interface. A slice is a pointer and a length; a null pointer with length 0 is fine.
 #![tactic(auto)]
 
 ghost use Rattle.pm1.specs.Answers.{PagesOutcome};

@@ -1,6 +1,6 @@
 -- A reading of portions keeps what was told of those read and what is still to be told of those left; at the end nothing is left.
 use mathlib.Core.Path.{◌≡◌, refl, ap, sym, ◌∙◌}
-use mathlib.Core.Bool.{Bool, true, false, not, ◌&&◌, ◌||◌, true≢false, or-false}
+use mathlib.Core.Bool.{Bool, true, false, not, ◌&&◌, ◌||◌, or-false}
 use mathlib.Core.List.{List, [], ◌∷◌, ◌++◌, map, append_assoc, append-nil}
 use Prim.Native.Nat.{ℕ, ◌+◌, ◌*◌, ◌-◌, ◌<◌, ◌≤◌}
 use native.Mathlib.Omega.{arith}
@@ -38,27 +38,20 @@ either-spells false true after = refl
 either-spells false false after = refl
 
 module _ {s : List ℕ} {r left : Run} {count : ℕ} {misspelt : Bool} {numbers : List ℕ} (so_far : Reads s r left count misspelt numbers) where
-  pub all_read : items_of s left ≡ no_items → ListsPortions s r (record { count = count; others = false; misspelt = misspelt }) numbers
+  pub all_read : items_of s left ≡ no_items → ListsPortions s r (record { count = count; misspelt = misspelt }) numbers
   all_read end =
       let no : values (tree_in s left) ≡ [] = values-end s left end in
       record {
-        others = sym (ap not (so_far.portions ∙ portions-end s left end));
-        count = λ _. omega (arith, so_far.counts, ap length no);
-        misspelt = λ _. sym (so_far.spells ∙ rw no (or-false misspelt));
-        inside = λ _. so_far.inside;
-        stored = λ _ few. sym (so_far.stored few ∙ rw no (append-nil (bounded s (take (2 * count) numbers))));
+        only = so_far.portions ∙ portions-end s left end;
+        count = omega (arith, so_far.counts, ap length no);
+        misspelt = sym (so_far.spells ∙ rw no (or-false misspelt));
+        inside = so_far.inside;
+        stored = λ few. sym (so_far.stored few ∙ rw no (append-nil (bounded s (take (2 * count) numbers))));
       }
 
   module _ {code first past : ℕ} {inner rest : Run} (met : Meeting s left code first past inner rest) where
-    pub other-read : (code ≡ 0x12 → ⊥) → ListsPortions s r (record { count = 0; others = true; misspelt = false }) numbers
-    other-read n =
-        record {
-          others = sym (ap not (so_far.portions ∙ others-met met n));
-          count = λ t. absurd (true≢false t);
-          misspelt = λ t. absurd (true≢false t);
-          inside = λ t. absurd (true≢false t);
-          stored = λ t. absurd (true≢false t);
-        }
+    pub other-read : (code ≡ 0x12 → ⊥) → all_portions (tree_in s r) ≡ false
+    other-read n = so_far.portions ∙ others-met met n
 
     module _ (e : code ≡ 0x12) (numbers' : List ℕ) (enough : 2 * most_portions ≤ length numbers)
         (kept : count < most_portions → take (2 * (count + 1)) numbers' ≡ take (2 * count) numbers ++ first ∷ past ∷ []) where

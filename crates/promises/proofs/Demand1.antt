@@ -9,8 +9,8 @@ use native.Mathlib.Omega.{arith}
 use lib.Dec.{eqb, ltb}
 use lib.ListN.{length, get_elem?}
 use borrow.Author.Tests.{ne_eqb, le-leb, lt-leb}
-use Rattle.octets.specs.declared.Outcome.{Outcome}
-use Rattle.octets.specs.declared.Outcome.TheVariants.{Ended, Refused}
+use Rattle.std.specs.Prelude.{Ok, Err}
+use Rattle.octets.specs.Told.{Outcome}
 use Rattle.headers.specs.Head.{is_in}
 use Rattle.octets.specs.Walk.{count, stream_limit, deepest, End, ends, stops, run, outcome_of, walk_of}
 use Rattle.octets.specs.Told.{told}
@@ -112,8 +112,8 @@ judged-headers s headers (accepted elements) = refl
 judged-headers s headers (refused number element) = refl
 
 walked-headers : (edition : Edition) (s : List ℕ) (o : Outcome) → headers_of (by_walk edition s o) ≡ (told o).headers
-walked-headers edition s (Ended at headers) = judged-headers s headers (judge edition (tree_of s))
-walked-headers edition s (Refused number place headers) = refl
+walked-headers edition s (Ok o) = judged-headers s o.count (judge edition (tree_of s))
+walked-headers edition s (Err fault) = refl
 
 -- the check's header count is the walk's
 headers-told : (edition : Edition) (s table : List ℕ) → (checked edition s table).headers ≡ (told (walk_of s)).headers

@@ -11,7 +11,7 @@ use lib.Dec.{eqb, ltb}
 use lib.ListN.{length, get_elem?}
 use borrow.Author.Tests.{ne_eqb, eq-eqb, eqb-true, le-ltb, ltb-true, ltb-false}
 use borrow.Table.Steps.{cases}
-use Rattle.octets.specs.declared.Outcome.TheVariants.{Ended}
+use Rattle.octets.specs.Told.{ended}
 use Rattle.octets.specs.Walk.{stream_limit, deepest, walk_of}
 use Rattle.octets.proofs.RulesHold.{derives}
 use Rattle.tree.specs.Tree.{tree_of}
@@ -42,7 +42,7 @@ use Rattle.promises.proofs.Locating.{located-nowhere, located-part}
 use Rattle.answers.proofs.Checks.{checks-letter}
 
 -- the header count of a walk that ended is the tree's item count
-headers-tree : (s : List ℕ) (at headers : ℕ) → walk_of s ≡ Ended at headers → headers ≡ item_count (tree_of s)
+headers-tree : (s : List ℕ) (at headers : ℕ) → walk_of s ≡ ended at headers → headers ≡ item_count (tree_of s)
 headers-tree s at headers w = (stream-count s at headers w).1 ∙ count-tree (derives deepest s 0 (length s) false (omega arith))
 
 module _ (edition : Edition) (s : List ℕ) (headers : ℕ) (elements : List Element) where

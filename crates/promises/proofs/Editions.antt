@@ -10,10 +10,10 @@ use lib.ListN.{length, take, get_or, get_elem?}
 use lib.Seq.{length-take-le}
 use borrow.Author.Tests.{eqb-true, ne_eqb, leb-true, not-true, not-false}
 use borrow.Table.Steps.{cases}
+use Rattle.std.specs.Prelude.{Ok, Err}
 use Rattle.laws.proofs.Tests.{cond-holds}
 use Rattle.headers.specs.Head.{constructed, code_of, type_field, is_in}
-use Rattle.octets.specs.declared.Outcome.{Outcome}
-use Rattle.octets.specs.declared.Outcome.TheVariants.{Ended, Refused}
+use Rattle.octets.specs.Told.{Outcome, ended}
 use Rattle.octets.specs.Walk.{Items, no_items, item, End, ends, stops, walk_of}
 use Rattle.tree.specs.Tree.{Tree, empty, leaf, branch, formed, plain, tree_of}
 use Rattle.contents.specs.declared.Span.{Span}
@@ -115,8 +115,8 @@ judge-agrees (leaf type value after) h = from-agrees (leaf type value after) h [
 judge-agrees (branch type inside after) h = from-agrees (branch type inside after) h []
 
 walk-agrees : (s : List ℕ) → AllAlike (tree_of s) → (o : Outcome) → by_walk Of1993 s o ≡ by_walk Of1988 s o
-walk-agrees s h (Ended at headers) = ap (after_walk (items_of_stream s) headers) (judge-agrees (tree_of s) h)
-walk-agrees s h (Refused number place headers) = refl
+walk-agrees s h (Ok o) = ap (after_walk (items_of_stream s) o.count) (judge-agrees (tree_of s) h)
+walk-agrees s h (Err fault) = refl
 
 letters-agree : (s : List ℕ) → AllAlike (tree_of s) → letter_in Of1993 s ≡ letter_in Of1988 s
 unfolding letter_in
@@ -532,7 +532,7 @@ module _ (s : List ℕ) (j : ℕ) (top : TopItem) (there : get_elem? (top_items 
   not_earlier few n l (misspelt e) = omega arith
   not_earlier few n l (repeated e) = omega arith
 
-  ten : (at headers : ℕ) → walk_of s ≡ Ended at headers → PassedBefore s j → j < most_elements
+  ten : (at headers : ℕ) → walk_of s ≡ ended at headers → PassedBefore s j → j < most_elements
       → letter_in Of1988 s ≡ refusal 10 (place_of j (items_of_stream s)) headers
   ten at headers walked before few =
       let refuses = at_element (record {

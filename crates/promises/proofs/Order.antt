@@ -1,4 +1,5 @@
 -- The order of a letter is as promised, and the check accepts both orders and neither: streams of each, computed.
+use Rattle.std.specs.Prelude.{Option, None, Some}
 use mathlib.Core.Path.{◌≡◌, refl, ap, sym, subst}
 use mathlib.Core.Logic.{◌⊎◌, inl, inr}
 use mathlib.Core.List.{List, map}
@@ -13,8 +14,6 @@ use Rattle.elements.specs.Judge.{Element}
 use Rattle.letters.specs.Letter.{Letter, letter, refusal, letter_in}
 use Rattle.order.specs.declared.Class.{Class}
 use Rattle.order.specs.declared.Class.TheVariants.{A, B}
-use Rattle.order.specs.declared.Fault.{Fault}
-use Rattle.order.specs.declared.Fault.TheVariants.{Nowhere, At}
 use Rattle.order.specs.declared.Ordered.{Ordered}
 use Rattle.order.specs.Fault.{fault_of}
 use Rattle.order.specs.Question.{verdict, out_of_order_number, element_start, OrderIs, by_rule}
@@ -37,16 +36,16 @@ module _ (edition : Edition) (class : Class) (s : List ℕ) where
   octet-inside : (elements : List Element) (n : ℕ) → element_start s elements n ≤ length s
   octet-inside elements n = cases (ltb n (length elements)) (λ t. rw t (place_inside s n)) (λ t. rw t (omega arith))
 
-  known-found : (headers : ℕ) (elements : List Element) → letter_in edition s ≡ letter headers elements → (f : Fault)
+  known-found : (headers : ℕ) (elements : List Element) → letter_in edition s ≡ letter headers elements → (f : Option ℕ)
       → Known (by_found s elements f)
-  known-found headers elements e Nowhere =
+  known-found headers elements e None =
       record {
         told = inl (omega arith);
         inside = omega arith;
         at_start = λ _. refl;
         accepted = λ z. record { headers = headers; elements = elements; judged = e };
       }
-  known-found headers elements e (At n) =
+  known-found headers elements e (Some n) =
       record {
         told = inr refl;
         inside = octet-inside elements n;

@@ -12,7 +12,7 @@ use lib.Dec.{eqb, leb}
 use lib.ListN.{length, take, drop, get_elem?, length-map}
 use borrow.Author.Tests.{eqb-true, eqb-false, eq-eqb, ne_eqb, le-leb, lt-leb, leb-true, leb-false, not-true}
 use borrow.Table.Steps.{cases}
-use Rattle.octets.specs.declared.Outcome.TheVariants.{Ended, Refused}
+use Rattle.octets.specs.Told.{ended, refused as faulty}
 use Rattle.octets.specs.Walk.{count, stream_limit, deepest, End, ends, stops, Walked, run, answer, walk_of}
 use Rattle.octets.specs.Rules.{Runs}
 use Rattle.octets.proofs.RulesHold.{derived, derives}
@@ -418,7 +418,7 @@ module _ (edition : Edition) (s : List ℕ) where
   rules-hold : Runs s deepest 0 (length s) false top.items top.how
   rules-hold = derives deepest s 0 (length s) false (omega arith)
 
-  walked-over : stream_limit < length s → walk_of s ≡ Refused 1 0 0
+  walked-over : stream_limit < length s → walk_of s ≡ faulty 1 0 0
   unfolding walk_of
   walked-over l = rw (lt-leb (length s) stream_limit l)
 
@@ -432,10 +432,10 @@ module _ (edition : Edition) (s : List ℕ) where
   is-refused : {number place : ℕ} → RefusedWith edition s number place → IsRefused number place
   is-refused (too_long l) = (0, refused-walk edition s 1 0 0 (walked-over l))
   is-refused (at_fault {number} {place} {items} l runs) =
-      let e : walk_of s ≡ Refused number place (count items) = walked-within l ∙ ap answer (sym (derived runs)) in
+      let e : walk_of s ≡ faulty number place (count items) = walked-within l ∙ ap answer (sym (derived runs)) in
       (count items, refused-walk edition s number place (count items) e)
   is-refused (by_element {number} {j} {end} {items} l runs r) =
-      let e : walk_of s ≡ Ended end (count items) = walked-within l ∙ ap answer (sym (derived runs)) in (
+      let e : walk_of s ≡ ended end (count items) = walked-within l ∙ ap answer (sym (derived runs)) in (
         count items,
         refused-element edition s end (count items) number j e (by-refused edition (tree_of s) (typed-stream s) number j r (judge edition (tree_of s)) refl),
       )

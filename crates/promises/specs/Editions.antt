@@ -3,7 +3,7 @@
 use Rattle.std.specs.Prelude.{◌≡◌, ◌↔◌, Bool, true, not, ◌&&◌, ◌||◌, List, [], ◌∷◌, map, ℕ, ◌<◌, take}
 use Rattle.std.proofs.Math.Option.{some}
 use Rattle.std.proofs.Math.ListN.{get_elem?}
-use Rattle.octets.specs.declared.Outcome.TheVariants.{Ended}
+use Rattle.octets.specs.Told.{ended}
 use Rattle.octets.specs.Walk.{walk_of}
 use Rattle.tree.specs.Tree.{Tree, tree_of}
 use Rattle.contents.specs.Search.{absent, is}
@@ -108,7 +108,7 @@ pub record Editions : Type 0 where
   pub unmatched : (elements : List Element) (j : ℕ) (element : Element) → get_elem? elements j ≡ some element → 8 < element.kind
       → (side : Side) (m : Match) → IsMatch side elements m → (m.element ≡ j → ⊥) × (m.unit ≡ j → ⊥)
   -- "The 1988 question still gives 10 for them": at the first of them, if no rule refuses earlier,
-  pub ten : (s : List ℕ) (at headers j : ℕ) (item : TopItem) → walk_of s ≡ Ended at headers → get_elem? (top_items (tree_of s)) j ≡ some item
+  pub ten : (s : List ℕ) (at headers j : ℕ) (item : TopItem) → walk_of s ≡ ended at headers → get_elem? (top_items (tree_of s)) j ≡ some item
       → is_protected item.type ≡ true → PassedBefore s j → j < most_elements → letter_in Of1988 s ≡ refusal 10 (place_of j (items_of_stream s)) headers
   -- "never a wrong row": a stream with a protected part fills no table
   pub no_row : (s : List ℕ) (j : ℕ) (item : TopItem) → get_elem? (top_items (tree_of s)) j ≡ some item → is_protected item.type ≡ true

@@ -10,10 +10,10 @@ use lib.Dec.{eqb, ltb}
 use lib.ListN.{length}
 use borrow.Author.Tests.{lt-ltb, le-ltb, ltb-true, ltb-false, eqb-true}
 use borrow.Table.Steps.{cases}
+use Rattle.std.specs.Prelude.{Ok, Err}
 use Rattle.laws.proofs.Tests.{cond-holds}
 use Rattle.headers.specs.Head.{is_in}
-use Rattle.octets.specs.declared.Outcome.{Outcome}
-use Rattle.octets.specs.declared.Outcome.TheVariants.{Ended, Refused}
+use Rattle.octets.specs.Told.{Outcome, refused}
 use Rattle.octets.specs.Walk.{Items, no_items, item, walk_of}
 use Rattle.runs.specs.Runs.{tops}
 use Rattle.normal.specs.Short.{short_limit}
@@ -71,15 +71,15 @@ module _ (s : List ℕ) (rows index : ℕ) where
   enough-is r i = rw (le-ltb rows (rows_for (rows_needed s)) r, le-ltb index (index_for (rows_needed s)) i)
 
   never-lacks : (o : Outcome) → too_few s rows index ≡ false → once_walked o (too_few s rows index) ≡ false
-  never-lacks (Ended at headers) e = e
-  never-lacks (Refused number place headers) e = refl
+  never-lacks (Ok o) e = e
+  never-lacks (Err fault) e = refl
 
   not-lacking : too_few s rows index ≡ false → is_lacking s rows index ≡ false
   not-lacking e = cond-holds (λ (b : Bool). b ≡ false) (ltb short_limit (length s)) (λ _. refl) (λ _. never-lacks (walk_of s) e)
 
   walked_by : (o : Outcome) → walk_of s ≡ o → once_walked o (too_few s rows index) ≡ true → Walked s × (too_few s rows index ≡ true)
-  walked_by (Ended at headers) w e = (record { at = at; headers = headers; ended = w }, e)
-  walked_by (Refused number place headers) w e = absurd (false≢true e)
+  walked_by (Ok o) w e = (record { at = o.at; headers = o.count; ended = w }, e)
+  walked_by (Err fault) w e = absurd (false≢true e)
 
   is-lacking : is_lacking s rows index ≡ true → Lacking s rows index
   is-lacking e =
@@ -132,7 +132,7 @@ module _ (s : List ℕ) (rows index : ℕ) where
         let longer = index-grows (rows_needed s) n l in
         as_short (not-lacking (enough-is (omega (arith, more, r)) (omega (arith, longer, i))))
 
-    by-walk : (number place headers : ℕ) → length s ≤ short_limit → walk_of s ≡ Refused number place headers
+    by-walk : (number place headers : ℕ) → length s ≤ short_limit → walk_of s ≡ refused number place headers
         → written_lent edition s out rows index ≡ record { number = number; place = place; length = 0 }
     by-walk number place headers l w =
         let few : is_lacking s rows index ≡ false = rw (le-ltb short_limit (length s) l, w) in

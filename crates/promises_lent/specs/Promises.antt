@@ -1,6 +1,6 @@
 -- The short normal form in scratch that the caller lends: what is promised of it. `promises` (proofs/Promises) is a value of the record below.
 use Rattle.std.specs.Prelude.{◌≡◌, ◌⊎◌, ◌↔◌, true, List, [], ◌∷◌, ℕ, ◌+◌, ◌<◌, ◌≤◌, length}
-use Rattle.octets.specs.declared.Outcome.TheVariants.{Ended, Refused}
+use Rattle.octets.specs.Told.{ended, refused}
 use Rattle.octets.specs.Walk.{walk_of}
 use Rattle.tree.specs.Tree.{tree_of}
 use Rattle.normal.specs.Short.{short_limit}
@@ -19,7 +19,7 @@ use Rattle.promises.specs.Editions.{agree}
 pub record Walked (s : List ℕ) : Type 0 where
   pub at : ℕ
   pub headers : ℕ
-  pub ended : walk_of s ≡ Ended at headers
+  pub ended : walk_of s ≡ ended at headers
 
 -- rules 1 to 8 pass a short stream, and the lent numbers are too few for its elements
 pub record Lacking (s : List ℕ) (rows index : ℕ) : Type 0 where
@@ -47,7 +47,7 @@ pub record Lent (edition : Edition) (s out : List ℕ) (rows index : ℕ) : Type
       → rows_for (length elements) ≤ rows → index_for (length elements) ≤ index → AsShort edition s out rows index
   pub enough_for_any : rows_for most_elements ≤ rows → index_for most_elements ≤ index → AsShort edition s out rows index
   -- what rules 1 to 8 refuse is refused by that number at that place, whatever is lent; what 9 to 15 refuse, if it is enough
-  pub refused_by_walk : (number place headers : ℕ) → length s ≤ short_limit → walk_of s ≡ Refused number place headers
+  pub refused_by_walk : (number place headers : ℕ) → length s ≤ short_limit → walk_of s ≡ refused number place headers
       → written_lent edition s out rows index ≡ record { number = number; place = place; length = 0 }
   pub refused_alike : (number place headers : ℕ) → length s ≤ short_limit → letter_in edition s ≡ refusal number place headers
       → rows_for (rows_needed s) ≤ rows → index_for (rows_needed s) ≤ index

@@ -1,4 +1,5 @@
 -- What is known while the portions of an element are listed: what is put, and then what the portions that are left yield, is all.
+use Rattle.std.specs.Prelude.{Option, Some, None}
 use mathlib.Core.Path.{◌≡◌, refl, ap, sym, ◌∙◌, subst}
 use mathlib.Core.Bool.{true, false, ◌&&◌, true≢false, and-eq-true_iff}
 use mathlib.Core.Option.{some}
@@ -21,19 +22,15 @@ use Rattle.runs.specs.declared.Run.{Run}
 use Rattle.runs.specs.Runs.{items_of, tree_in, Fine, Meeting}
 use Rattle.portions.specs.Portions.{most_portions, all_portions, values}
 use Rattle.portions.proofs.Meetings.{values-next, portions-left, values-end}
-use Rattle.rows.specs.declared.RowFound.{RowFound}
-use Rattle.rows.specs.declared.RowFound.TheVariants.{At, Nothing}
-use Rattle.rows.specs.Columns.{identifier_column, kind_at, first_at, past_at, Bounded}
+use Rattle.rows.specs.Columns.{identifier_column, kind_at, first_at, past_at, value_at}
 use Rattle.rows.specs.Chains.{FindsRow}
 use Rattle.elements.specs.Judge.{Element}
-use Rattle.elements.specs.ElementRows.{bytes_in}
-use Rattle.elements.specs.Says.{Placed}
 use Rattle.reading.specs.declared.Match.{Match}
 use Rattle.reading.specs.declared.Side.{Side}
 use Rattle.reading.specs.Match.{kinds_of, for_each, portion_matches, element_matches}
 use Rattle.reading.specs.Records.{PutsRecords}
 use Rattle.letters.specs.Telling.{Tells, RowsTell, element_at, no_element}
-use Rattle.rows.specs.Columns.{span_at, portions_at, portions_column}
+use Rattle.rows.specs.Columns.{portions_at, portions_column}
 use Rattle.reading.specs.Ready.{column_of, unit_space, is_listed, Room, PutsElement, found_matches, FoundBelow}
 use Rattle.reading.proofs.Lists.{at-get_d}
 use Rattle.reading.proofs.OnePlace.{few-portions}
@@ -41,10 +38,6 @@ use Rattle.reading.proofs.Matches.{joins-told}
 use Rattle.reading.proofs.Single.{unread}
 use Rattle.reading.proofs.Putting.{puts_none, puts_then, puts-length}
 use Rattle.reading.proofs.Looking.{found-matches, finds-below}
-
--- a pair of a row lies in the stream
-pub span-placed : {s rows : List ℕ} {column n j : ℕ} → Bounded s rows column n → j < n → Placed s (span_at rows column j)
-span-placed {j = j} bounded l = record { order = bounded.ordered j l; inside = bounded.inside j l }
 
 -- the matches of the portions that are left
 abbrev pub to_come : Side → (s : List ℕ) → List Element → (element : ℕ) → (left : Run) → (place : ℕ) → List Match
@@ -82,7 +75,8 @@ module _ (s rows : List ℕ) (n element : ℕ) (below : element < n) (elements :
   pub element-told : Tells s rows element (element_at elements element)
   element-told = ready.tells element (element_at elements element) element_there
 
-  all-to-come : (side : Side) → to_come side s elements element (portions_at rows element) 0 ≡ element_matches side elements element (element_at elements element)
+  all-to-come : (side : Side) → to_come side s elements element (portions_at rows element) 0
+      ≡ element_matches side elements element (element_at elements element)
   unfolding element_matches
   all-to-come side = ap (λ (vs : List (List ℕ)). for_each 0 vs (portion_matches side elements element (element_at elements element))) element-told.portions
 
@@ -118,9 +112,9 @@ module _ {side : Side} {s rows : List ℕ} {n element : ℕ} {of_letter : List E
         (for_each place vs (portion_matches side elements element (element_at elements element))) flat total)
         (sym (values-end s left e)) (puts_none flat total))
 
-    module _ {code from to : ℕ} {inner rest : Run} (met : Meeting s left code from to inner rest) (found : RowFound)
+    module _ {code from to : ℕ} {inner rest : Run} (met : Meeting s left code from to inner rest) (found : Option ℕ)
         (finds : FindsRow s rows (column_of side) n unit_space
-        (bytes_in s (span_at rows identifier_column element) ++ space_byte ∷ slice from to s) found) where
+        (value_at s rows identifier_column element ++ space_byte ∷ slice from to s) found) where
       -- a portion that is met yields what was found, and then come the others
       one_more : (elements : List Element) → RowsTell s rows n elements
           → to_come side s elements element left place ≡ found_matches element place found ++ to_come side s elements element rest (place + 1)
@@ -129,9 +123,9 @@ module _ {side : Side} {s rows : List ℕ} {n element : ℕ} {of_letter : List E
           let x = element_at elements element in
           let told = element-told s rows n element named.below elements ready in
           let on_side : is_in x.kind (kinds_of side) ≡ true = ap (λ (k : ℕ). is_in k (kinds_of side)) (sym told.kind) ∙ named.on_side in
-          let name : x.identifier ≡ octets (bytes_in s (span_at rows identifier_column element)) =
+          let name : x.identifier ≡ octets (value_at s rows identifier_column element) =
           told.identifier ∙ rw (lt-ltb (first_at rows identifier_column element) (past_at rows identifier_column element) named.named) in
-          let first = found-matches ready side x (bytes_in s (span_at rows identifier_column element)) (slice from to s)
+          let first = found-matches ready side x (value_at s rows identifier_column element) (slice from to s)
           on_side name element place found finds in
           ap (λ (vs : List (List ℕ)). for_each place vs (portion_matches side elements element x)) (values-next met listing.only_portions)
           ∙ rw (first, add-one place)
@@ -143,7 +137,8 @@ module _ {side : Side} {s rows : List ℕ} {n element : ℕ} {of_letter : List E
       pub room-for-one : 3 * (total + length (found_matches element place found)) ≤ length flat
       room-for-one =
           let r = listing.room of_letter known in
-          let e = ap length (one_more of_letter known) ∙ length-append (found_matches element place found) (to_come side s of_letter element rest (place + 1)) in
+          let e = ap length (one_more of_letter known)
+          ∙ length-append (found_matches element place found) (to_come side s of_letter element rest (place + 1)) in
           omega arith
 
       pub small-element : element < 4294967296
@@ -154,11 +149,11 @@ module _ {side : Side} {s rows : List ℕ} {n element : ℕ} {of_letter : List E
 
       pub found-small : FoundBelow 4294967296 found
       found-small = smaller found (finds-below s rows (column_of side) n unit_space
-          (bytes_in s (span_at rows identifier_column element) ++ space_byte ∷ slice from to s) found finds)
+          (value_at s rows identifier_column element ++ space_byte ∷ slice from to s) found finds)
         where
-          smaller : (f : RowFound) → FoundBelow n f → FoundBelow 4294967296 f
-          smaller (At u) b = omega (arith, known.counted, known.apart.few)
-          smaller Nothing b = tt
+          smaller : (f : Option ℕ) → FoundBelow n f → FoundBelow 4294967296 f
+          smaller (Some u) b = omega (arith, known.counted, known.apart.few)
+          smaller None b = tt
 
       -- and once it is put, the others are left
       pub listing-more : {flat' : List ℕ} {total' : ℕ} → PutsRecords flat total (found_matches element place found) flat' total'
@@ -170,7 +165,8 @@ module _ {side : Side} {s rows : List ℕ} {n element : ℕ} {of_letter : List E
         kept = puts-length put ∙ listing.kept;
         room = λ elements ready.
             let r = listing.room elements ready in
-            let e = ap length (one_more elements ready) ∙ length-append (found_matches element place found) (to_come side s elements element rest (place + 1)) in
+            let e = ap length (one_more elements ready)
+            ∙ length-append (found_matches element place found) (to_come side s elements element rest (place + 1)) in
             omega (arith, put.counted, puts-length put);
         goes_on = λ elements ready after end p.
             listing.goes_on elements ready after end

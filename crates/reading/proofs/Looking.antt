@@ -1,5 +1,6 @@
 -- Looking a joined name up among the text units yields the matches of a portion: a row has the name exactly when its element joins, and
 -- no two units have it.
+use Rattle.std.specs.Prelude.{Option, Some, None}
 use mathlib.Core.Path.{◌≡◌, refl, ap, sym, ◌∙◌}
 use mathlib.Core.Bool.{Bool, true, false}
 use mathlib.Core.Option.{some}
@@ -13,8 +14,6 @@ use Rattle.headers.specs.Head.{is_in}
 use Rattle.names.specs.Names.{space_byte}
 use Rattle.contents.specs.declared.Span.{Span}
 use Rattle.contents.specs.Search.{absent, octets}
-use Rattle.rows.specs.declared.RowFound.{RowFound}
-use Rattle.rows.specs.declared.RowFound.TheVariants.{At, Nothing}
 use Rattle.rows.specs.Columns.{kind_at, first_at, past_at}
 use Rattle.rows.specs.Rows.{name_space_of}
 use Rattle.rows.specs.Chains.{Has, FindsRow}
@@ -129,13 +128,13 @@ module _ {s rows : List ℕ} {n : ℕ} {elements : List Element} (ready : RowsTe
       found_nowhere none = none_passes (joins side element portion) made 0 elements (λ k unit there t. none k (joins-has k unit there t))
 
       -- the matches of a portion are what the look-up of its joined name yields
-      pub found-matches : (found : RowFound) → FindsRow s rows
+      pub found-matches : (found : Option ℕ) → FindsRow s rows
           (column_of side) n unit_space bytes found → portion_matches side elements e element p portion ≡ found_matches e p found
-      found-matches (At u) finds = found-there u finds.0
-      found-matches Nothing finds = found_nowhere finds
+      found-matches (Some u) finds = found-there u finds.0
+      found-matches None finds = found_nowhere finds
 
 -- a unit that is found is one of the first n rows
-pub finds-below : (s rows : List ℕ) (column n name_space : ℕ) (bytes : List ℕ) (found : RowFound) → FindsRow s rows column n name_space bytes found
+pub finds-below : (s rows : List ℕ) (column n name_space : ℕ) (bytes : List ℕ) (found : Option ℕ) → FindsRow s rows column n name_space bytes found
     → FoundBelow n found
-finds-below s rows column n name_space bytes (At u) finds = finds.0.below
-finds-below s rows column n name_space bytes Nothing finds = tt
+finds-below s rows column n name_space bytes (Some u) finds = finds.0.below
+finds-below s rows column n name_space bytes None finds = tt

@@ -1,18 +1,18 @@
 -- Records are put one after another, three numbers each, so what is put in two goes is put in one; and the records are read back from
 -- their numbers.
+use Rattle.std.specs.Prelude.{Some}
 use mathlib.Core.Path.{◌≡◌, refl, ap, sym, ◌∙◌}
 use mathlib.Core.List.{List, [], ◌∷◌, ◌++◌}
-use Prim.Native.Nat.{ℕ, zero, suc, ◌+◌, ◌*◌, ◌<◌, ◌≤◌}
+use Prim.Native.Nat.{ℕ, zero, suc, ◌+◌, ◌-◌, ◌*◌, ◌<◌, ◌≤◌}
 use native.Mathlib.Omega.{arith}
-use native.Mathlib.Numerals.{add-one}
-use lib.ListN.{length, get_or, set, take, drop, length-append}
+use lib.ListN.{length, get_or, take, drop, length-append}
 use lib.Seq.{sets-eq, length-sets, take-suc, take_all}
-use Rattle.rows.specs.declared.RowFound.{RowFound}
-use Rattle.rows.specs.declared.RowFound.TheVariants.{At, Nothing}
+use borrow.Rule.Slice.PartMut.{put_mid}
 use Rattle.reading.specs.declared.Match.{Match}
 use Rattle.reading.specs.Records.{numbers_of, record_at, records, PutsRecords}
-use Rattle.reading.specs.Ready.{found_matches, FoundBelow}
+use Rattle.reading.specs.Ready.{found_matches}
 use Rattle.reading.proofs.Made.{no_match}
+use Rattle.laws.proofs.Parts.{part-set}
 use Rattle.laws.proofs.Writes.{sets-append}
 
 pub length-numbers : (ms : List Match) → length (numbers_of ms) ≡ 3 * length ms
@@ -30,12 +30,14 @@ pub puts_none : (l : List ℕ) (count : ℕ) → PutsRecords l count [] l count
 unfolding numbers_of
 puts_none l count = record { counted = omega arith; stored = refl }
 
--- one record is put by three stores
-pub puts_one : (l : List ℕ) (k e p u : ℕ) → PutsRecords l k (found_matches e p (At u)) (set (set (set l (3 * k) e) (3 * k + 1) p) (3 * k + 2) u) (k + 1)
+-- one record is put where three numbers were
+pub puts_one : (l copied : List ℕ) (k e p u : ℕ) → 3 * k + 3 ≤ length l → copied ≡ e ∷ p ∷ u ∷ [] → PutsRecords l k (found_matches e p (Some u))
+    (put_mid (3 * k) (3 * k + 3 - 3 * k) l copied) (k + 1)
 unfolding numbers_of
-puts_one l k e p u =
-    let two : 3 * k + 2 ≡ suc (suc (3 * k)) = omega arith in
-    record { counted = refl; stored = rw (add-one (3 * k), two) }
+puts_one l copied k e p u h is = record {
+  counted = refl;
+  stored = part-set (3 * k) (3 * k + 3 - 3 * k) l copied (e ∷ p ∷ u ∷ []) is (omega arith) h;
+}
 
 -- some are put, and then others
 pub puts_then : {a b d : List ℕ} {i j k : ℕ} (ms ns : List Match) → PutsRecords a i ms b j → PutsRecords b j ns d k → PutsRecords a i (ms ++ ns) d k
@@ -59,17 +61,6 @@ module _ {a b : List ℕ} {count : ℕ} (ms : List Match) (p : PutsRecords a 0 m
       let l = length-numbers ms in
       let e : 0 + length (numbers_of ms) ≡ 3 * length ms = omega arith in
       p.stored ∙ sets-eq (numbers_of ms) a 0 (omega arith) ∙ ap (λ (n : ℕ). numbers_of ms ++ drop n a) e
-
--- what was found is a match or none
-module _ (e p : ℕ) where
-  pub found-one : (found : RowFound) (u : ℕ) → found ≡ At u → found_matches e p found ≡ found_matches e p (At u)
-  found-one found u q = ap (found_matches e p) q
-
-  pub found_none : (found : RowFound) → found ≡ Nothing → found_matches e p found ≡ []
-  found_none found q = ap (found_matches e p) q
-
-pub found_below : (n : ℕ) (found : RowFound) (u : ℕ) → found ≡ At u → FoundBelow n found → u < n
-found_below n found u q b = rw q at b
 
 -- the records that stand at the front of numbers
 record_there : (ms : List Match) (rest : List ℕ) (k : ℕ) → k < length ms → record_at (numbers_of ms ++ rest) k ≡ get_or ms k no_match

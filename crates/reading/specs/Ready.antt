@@ -1,8 +1,6 @@
 -- The matches that are looked up by the rows of a letter, of any edition.
-use Rattle.std.specs.Prelude.{Bool, ◌&&◌, List, [], ◌∷◌, ℕ, ◌+◌, ◌*◌, ◌<◌, ◌≤◌, length}
+use Rattle.std.specs.Prelude.{Bool, ◌&&◌, List, [], ◌∷◌, ℕ, ◌+◌, ◌*◌, ◌<◌, ◌≤◌, length, Option, Some, None}
 use Rattle.headers.specs.Head.{is_in}
-use Rattle.rows.specs.declared.RowFound.{RowFound}
-use Rattle.rows.specs.declared.RowFound.TheVariants.{At, Nothing}
 use Rattle.rows.specs.Columns.{portions_column, identifier_column, logical_column, kind_at, span_at, there}
 use Rattle.elements.specs.declared.Edition.{Edition}
 use Rattle.elements.specs.Judge.{Element}
@@ -24,14 +22,14 @@ abbrev pub unit_space : ℕ
 unit_space = 2
 
 -- the matches that a look-up of a portion yields
-abbrev pub found_matches : (e p : ℕ) → RowFound → List Match
-found_matches e p (At u) = record { element = e; portion = p; unit = u } ∷ []
-found_matches e p Nothing = []
+abbrev pub found_matches : (e p : ℕ) → Option ℕ → List Match
+found_matches e p (Some u) = record { element = e; portion = p; unit = u } ∷ []
+found_matches e p None = []
 
 -- a unit that was found has a number below n
-abbrev pub FoundBelow : (n : ℕ) → RowFound → Type 0
-FoundBelow n (At u) = u < n
-FoundBelow n Nothing = Unit {0}
+abbrev pub FoundBelow : (n : ℕ) → Option ℕ → Type 0
+FoundBelow n (Some u) = u < n
+FoundBelow n None = Unit {0}
 
 -- whether element e is read on the side and has an identifier and portions
 unfoldable pub is_listed : (side : Side) (rows : List ℕ) (e : ℕ) → Bool

@@ -10,21 +10,17 @@ ghost use Rattle.rows.specs.Columns.{Bounded};
 ghost use Rattle.rows.specs.Chains.{FindsRow};
 ghost use Rattle.rows.specs.Index.{Filed, BothFiled};
 ghost use Rattle.elements.specs.declared.Edition.{Edition};
-ghost use Rattle.elements.specs.ElementRows.{bytes_in};
-ghost use Rattle.elements.specs.Says.{Placed};
 ghost use Rattle.letters.specs.Scratch.{LetterRows};
 ghost use Rattle.reading.specs.Match.{kinds_of};
 ghost use Rattle.reading.specs.Records.{record_at, records, PutsRecords};
 ghost use Rattle.reading.specs.Ready.{column_of, unit_space, is_listed, Room, PutsElement, PutsAll, ListsLetter};
 ghost use Rattle.reading.specs.Ready.{found_matches, FoundBelow};
 
-use contents::Span;
 use names::Asked;
 use rows::{
     IDENTIFIER, LAYOUT_CLASS, LAYOUT_OBJECT, LOGICAL, LOGICAL_CLASS, LOGICAL_OBJECT, PORTIONS,
-    RowFound, UNITS,
+    UNITS,
 };
-use runs::Met;
 
 // Which objects and classes are read, and by which identifier of a text unit.
 #[derive(Clone, Copy)]
@@ -33,7 +29,7 @@ pub enum Side {
     Logical,
 }
 
-// One record of the reading list: an element, a place in its portions and a text unit, all from 0.
+// One record of the reading list, as C is lent it: an element, a place in its portions and a text unit, all from 0.
 #[repr(C)]
 #[derive(Clone, Copy)]
 pub struct Match {
@@ -60,11 +56,8 @@ pub fn fill(flat: &[u32], count: usize, list: &mut [Match])
     requires { (3 * count ≤ length flat.now) × (count ≤ length list.old) }
     ensures { list.new ≡ records flat.now count ++ drop count list.old }
 {
-    let mut k: usize = 0;
-    while k < count {
-        let m = record_at(flat, k);
-        list[k] = m;
-        k += 1;
+    for k in 0..count {
+        list[k] = record_at(flat, k);
     }
 }
 
@@ -88,21 +81,17 @@ pub fn is_read(side: Side, kind: usize) -> bool
 }
 
 // Whether element j is read on the side and has an identifier and portions.
+#[tactic(auto, unfolding(crate::specs::Ready::is_listed))]
 fn is_listed(rows: &[u32], side: Side, j: usize) -> bool
     requires { j * scratch_width + scratch_width ≤ length rows.now }
     ensures { result ≡ is_listed side rows.now j }
 {
-    let kind = rows::kind_at(rows, j);
-    if !is_read(side, kind) {
-        return false;
-    }
-    if !rows::is_named(rows, j) {
-        return false;
-    }
-    rows::is_there(rows::bounds_at(rows, j, PORTIONS))
+    is_read(side, rows::kind_at(rows, j))
+        && rows::is_named(rows, j)
+        && rows::is_there(rows::bounds_at(rows, j, PORTIONS))
 }
 
-// The text unit whose identifier is a name, one space and a portion, given by their bounds; `hashed` is the hash up to the space.
+// The text unit whose identifier is a name, one space and a portion; `hashed` is the hash up to the space.
 fn unit_of(
     s: &[u8],
     rows: &[u32],
@@ -110,24 +99,19 @@ fn unit_of(
     n: usize,
     column: usize,
     hashed: usize,
-    name: Span,
-    portion: Span,
-) -> RowFound
+    name: &[u8],
+    portion: &[u8],
+) -> Option<usize>
     requires bounded { Bounded s.now rows.now column n }
     requires filed { Filed s.now rows.now column index.now n }
-    requires hashed_value { (hashed ≡ hash_from (hash (bytes_in s.now name)) (space_byte ∷ [])) × (hashed < hashes) }
-    requires placed { Placed s.now name × Placed s.now portion }
-    ensures { FindsRow s.now rows.now column n unit_space
-        (bytes_in s.now name ++ space_byte ∷ bytes_in s.now portion) result }
+    requires hashed_value { (hashed ≡ hash_from (hash name.now) (space_byte ∷ [])) × (hashed < hashes) }
+    ensures { FindsRow s.now rows.now column n unit_space (name.now ++ space_byte ∷ portion.now) result }
 {
+    let whole = names::hash_over(portion, hashed);
     let asked = Asked {
-        first: name.first,
-        past: name.past,
-        joined: true,
-        from: portion.first,
-        to: portion.past,
+        front: name,
+        back: Some(portion),
     };
-    let whole = names::hash_over(s, portion.first, portion.past, hashed);
     rows::find(s, rows, index, n, column, UNITS, whole, asked)
 }
 
@@ -135,12 +119,10 @@ fn unit_of(
 fn put_record(flat: &mut [u32], k: usize, element: usize, portion: usize, unit: usize)
     requires k_in_bounds { 3 * k + 3 ≤ length flat.old }
     requires element_bound { (element < 4294967296) × (portion < 4294967296) × (unit < 4294967296) }
-    ensures { PutsRecords flat.old k (found_matches element portion (RowFound.At unit)) flat.new (k + 1) }
+    ensures { PutsRecords flat.old k (found_matches element portion (Some unit)) flat.new (k + 1) }
 {
-    let at = 3 * k;
-    flat[at] = element as u32;
-    flat[at + 1] = portion as u32;
-    flat[at + 2] = unit as u32;
+    let record = [element as u32, portion as u32, unit as u32];
+    flat[3 * k..3 * k + 3].copy_from_slice(&record);
 }
 
 // Puts the record of a portion whose unit was found.
@@ -149,18 +131,18 @@ fn put_found(
     count: usize,
     element: usize,
     portion: usize,
-    found: RowFound,
+    found: Option<usize>,
 ) -> usize
     requires found_in_bounds { 3 * (count + length (found_matches element portion found)) ≤ length flat.old }
     requires element_bound { (element < 4294967296) × (portion < 4294967296) × FoundBelow 4294967296 found }
     ensures { PutsRecords flat.old count (found_matches element portion found) flat.new result }
 {
     match found {
-        RowFound::At(unit) => {
+        Some(unit) => {
             put_record(flat, count, element, portion, unit);
             count + 1
         }
-        RowFound::Nothing => count,
+        None => count,
     }
 }
 
@@ -181,30 +163,20 @@ fn list_portions(
     requires room { Room side s.now rows.now n element flat.old count }
     ensures { PutsElement side s.now rows.now n element flat.old count flat.new result }
 {
-    let name = rows::bounds_at(rows, element, IDENTIFIER);
-    let hashed = names::hash_space(names::hash_over(s, name.first, name.past, 0));
+    let name = rows::value_at(s, rows, IDENTIFIER, element);
+    let hashed = names::hash_space(names::hash_over(name, 0));
+    let column = column_of(side);
     let mut left = rows::portions_at(rows, element);
-    let mut place: usize = 0;
+    let mut place: usize = 0; // counted by hand, as a run is no slice
     let mut total = count;
-    loop {
-        match runs::meet(s, left) {
-            Met::End => return total,
-            Met::Item {
-                code: _,
-                first,
-                past,
-                inner: _,
-                rest,
-            } => {
-                let column = column_of(side);
-                let portion = Span { first, past };
-                let found = unit_of(s, rows, index, n, column, hashed, name, portion);
-                total = put_found(flat, total, element, place, found);
-                place += 1;
-                left = rest;
-            }
-        }
+    while let Some(item) = runs::meet(s, left) {
+        let portion = &s[item.first..item.past];
+        let found = unit_of(s, rows, index, n, column, hashed, name, portion);
+        total = put_found(flat, total, element, place, found);
+        place += 1;
+        left = item.rest;
     }
+    total
 }
 
 // Puts the matches of one element.
@@ -224,10 +196,11 @@ fn list_element(
     requires room { Room side s.now rows.now n element flat.old count }
     ensures { PutsElement side s.now rows.now n element flat.old count flat.new result }
 {
-    if !is_listed(rows, side, element) {
-        return count;
+    if is_listed(rows, side, element) {
+        list_portions(s, rows, index, n, side, element, flat, count)
+    } else {
+        count
     }
-    list_portions(s, rows, index, n, side, element, flat, count)
 }
 
 // Puts all matches of a side, by the index of its identifiers.
@@ -237,11 +210,9 @@ fn list_side(s: &[u8], rows: &[u32], index: &[u16], n: usize, side: Side, flat: 
     requires n_in_bounds { 3 * n ≤ length flat.old }
     ensures { PutsAll side s.now rows.now n flat.old flat.new result }
 {
-    let mut element: usize = 0;
     let mut count: usize = 0;
-    while element < n {
+    for element in 0..n {
         count = list_element(s, rows, index, n, side, element, flat, count);
-        element += 1;
     }
     count
 }

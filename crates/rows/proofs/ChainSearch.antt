@@ -1,4 +1,5 @@
 -- A turn along a chain leaves no row behind that has the bytes, since each next row is the newest of its bucket before.
+use Rattle.std.specs.Prelude.{Some}
 use mathlib.Core.Path.{◌≡◌, sym, ap, ◌∙◌, subst}
 use mathlib.Core.Bool.{Bool, true, false, false≢true, true≢false}
 use mathlib.Core.List.{List}
@@ -13,7 +14,6 @@ use Rattle.names.proofs.Same.{same-eq, same_refl}
 use Rattle.rows.specs.Columns.{kind_at, value_at, Present}
 use Rattle.rows.specs.Rows.{name_space_of}
 use Rattle.rows.specs.Chains.{bucket_at, Newest, Indexed, Has, named, FindsRow}
-use Rattle.rows.specs.declared.RowFound.TheVariants.{At}
 
 -- a search that stands at v: no row from v on has the bytes, and row v - 1, if there is one, is of their bucket
 pub record Passed (s rows : List ℕ) (column buckets n name_space : ℕ) (bytes : List ℕ) (v : ℕ) : Type 0 where
@@ -78,5 +78,5 @@ module _ {s rows : List ℕ} {column n name_space : ℕ} {bytes : List ℕ} wher
       }
 
   pub found : {buckets v : ℕ} → 0 < v → Passed s rows column buckets n name_space bytes v → Has s rows column n name_space bytes (v - 1)
-      → FindsRow s rows column n name_space bytes (At (v - 1))
+      → FindsRow s rows column n name_space bytes (Some (v - 1))
   found some w h = (h, λ k l. w.none k (omega arith))

@@ -1,4 +1,5 @@
 -- A row more in either way: the links of the rows in chains stay, and so does the mark, except where a chain would grow long.
+use Rattle.std.specs.Prelude.{None}
 use mathlib.Core.Path.{◌≡◌, refl, sym, ap, ◌∙◌, subst}
 use mathlib.Core.List.{List}
 use mathlib.Core.Logic.{◌⊎◌, inl, inr}
@@ -12,7 +13,6 @@ use lib.Seq.{get_or-set_same, get_or-set_other}
 use Rattle.rows.specs.Columns.{Present, Bounded}
 use Rattle.names.specs.Hash.{hash, bucket}
 use Rattle.rows.specs.Chains.{Indexed, Links, FindsRow}
-use Rattle.rows.specs.declared.RowFound.TheVariants.{Nothing}
 use Rattle.rows.proofs.ChainGrow.{skipped}
 use Rattle.rows.proofs.ChainSearch.{passed_first}
 use Rattle.rows.specs.Lookup.{Ordered, mark_of, chained, longest_chain, AtMost, FiledIn, Around}
@@ -86,7 +86,7 @@ module _ {s rows : List ℕ} {column : ℕ} {head next : List ℕ} {n : ℕ} (x 
 
   -- an empty bucket, and no row in order: no row has the bytes
   pub none-filed : {name_space : ℕ} {bytes : List ℕ} {b : ℕ} → mark ≡ 0 → b ≡ bucket (length head) (hash bytes) → b < length head
-      → get_or head b 0 ≡ 0 → FindsRow s rows column n name_space bytes Nothing
+      → get_or head b 0 ≡ 0 → FindsRow s rows column n name_space bytes None
   none-filed unmarked e low empty k h =
       (passed_first (by-hash-all unmarked) e low).none k (omega (arith, empty)) h
 

@@ -1,4 +1,5 @@
 -- Rows with one name stand next to each other, the last of them last; a search in order ends right after it.
+use Rattle.std.specs.Prelude.{Option, Some, None}
 use mathlib.Core.Path.{◌≡◌, refl, sym, ap, ◌∙◌, subst}
 use mathlib.Core.Bool.{Bool, true, false, ◌&&◌, false≢true, true≢false}
 use mathlib.Core.List.{List, ◌∷◌}
@@ -12,8 +13,6 @@ use lib.Seq.{length-slice}
 use Rattle.rows.specs.Rows.{name_space_of}
 use Rattle.rows.specs.Columns.{kind_at, first_at, past_at, value_at, Bounded}
 use Rattle.rows.specs.Chains.{Has, named, FindsRow}
-use Rattle.rows.specs.declared.RowFound.{RowFound}
-use Rattle.rows.specs.declared.RowFound.TheVariants.{At, Nothing}
 use Rattle.rows.proofs.ChainSearch.{named-true, named-false}
 use Rattle.rows.specs.Order.{less}
 use Rattle.rows.specs.Lookup.{key_at, Stands, Ordered, Between, FindsFrom}
@@ -68,7 +67,7 @@ module _ {s rows : List ℕ} {column : ℕ} {next : List ℕ} {from n : ℕ} (b 
         let e : key_at s rows column (get_or next i.place 0) ≡ name_space ∷ bytes = ap (key_at s rows column) i.row ∙ has_key k h in
         absurd (true≢false (sym (subst (λ (x : List ℕ). less (name_space ∷ bytes) x ≡ true) e u) ∙ less-self (name_space ∷ bytes))))
 
-    pub none_before : p ≡ from → FindsFrom s rows column from n name_space bytes Nothing
+    pub none_before : p ≡ from → FindsFrom s rows column from n name_space bytes None
     none_before e k a h =
         let i = o.each k a h.below in absurd (omega (arith, stands-before k h i, i.after))
 
@@ -91,7 +90,7 @@ module _ {s rows : List ℕ} {column : ℕ} {next : List ℕ} {from n : ℕ} (b 
           (λ t. here (sym i.row ∙ ap (λ (x : ℕ). get_or next x 0) (eqb-true i.place (p - 1) t)))
           (λ t. before i (omega (arith, eqb-false i.place (p - 1) t)))
 
-      last-found-at : Has s rows column n name_space bytes (get_or next (p - 1) 0) → FindsFrom s rows column from n name_space bytes (At (get_or next (p - 1) 0))
+      last-found-at : Has s rows column n name_space bytes (get_or next (p - 1) 0) → FindsFrom s rows column from n name_space bytes (Some (get_or next (p - 1) 0))
       last-found-at f = (
         f,
         λ k l h.
@@ -104,7 +103,7 @@ module _ {s rows : List ℕ} {column : ℕ} {next : List ℕ} {from n : ℕ} (b 
             absurd (omega (arith, g.settled e, i.row))),
       )
 
-      none-found-at : (Has s rows column n name_space bytes (get_or next (p - 1) 0) → ⊥) → FindsFrom s rows column from n name_space bytes Nothing
+      none-found-at : (Has s rows column n name_space bytes (get_or next (p - 1) 0) → ⊥) → FindsFrom s rows column from n name_space bytes None
       none-found-at f k a h =
           falls ⊥ k a h (λ e. f (subst (Has s rows column n name_space bytes) e h))
           (λ i q.
@@ -116,12 +115,12 @@ module _ {s rows : List ℕ} {column : ℕ} {next : List ℕ} {from n : ℕ} (b 
           (less_equal (name_space ∷ bytes) (key_at s rows column (get_or next (p - 1) 0)) (w.before (p - 1) begins (omega (arith, w.starts, some))) u)))
 
       module _ {j : ℕ} (is : j ≡ get_or next (p - 1) 0) where
-        pub last_found : Has s rows column n name_space bytes j → FindsFrom s rows column from n name_space bytes (At j)
+        pub last_found : Has s rows column n name_space bytes j → FindsFrom s rows column from n name_space bytes (Some j)
         last_found f =
-            subst (λ (x : ℕ). FindsFrom s rows column from n name_space bytes (At x)) (sym is)
+            subst (λ (x : ℕ). FindsFrom s rows column from n name_space bytes (Some x)) (sym is)
             (last-found-at (subst (Has s rows column n name_space bytes) is f))
 
-        pub none_found : (Has s rows column n name_space bytes j → ⊥) → FindsFrom s rows column from n name_space bytes Nothing
+        pub none_found : (Has s rows column n name_space bytes j → ⊥) → FindsFrom s rows column from n name_space bytes None
         none_found f = none-found-at (λ h. f (subst (Has s rows column n name_space bytes) (sym is) h))
 
 -- what is found among the first rows, if none of the later ones has the bytes
@@ -143,6 +142,6 @@ module _ {s rows : List ℕ} {column from n name_space : ℕ} {bytes : List ℕ}
     of_bytes = h.of_bytes;
   }
 
-  pub finds-more : (f : RowFound) → FindsRow s rows column from name_space bytes f → FindsRow s rows column n name_space bytes f
-  finds-more (At j) x = (has_more x.0, λ k l h. x.1 k l (has-less h))
-  finds-more Nothing x = λ k h. x k (has-less h)
+  pub finds-more : (f : Option ℕ) → FindsRow s rows column from name_space bytes f → FindsRow s rows column n name_space bytes f
+  finds-more (Some j) x = (has_more x.0, λ k l h. x.1 k l (has-less h))
+  finds-more None x = λ k h. x k (has-less h)

@@ -1,18 +1,17 @@
 -- The order of a dictionary is total, and is told from the front and in parts.
-use mathlib.Core.Path.{◌≡◌, refl, sym, ◌∙◌}
+use mathlib.Core.Path.{◌≡◌, refl, sym, ap, ◌∙◌}
 use mathlib.Core.Bool.{true, false, cond, false≢true, true≢false}
+use mathlib.Core.Logic.{◌⊎◌, inl, inr}
 use mathlib.Core.List.{List, [], ◌∷◌, ◌++◌}
-use Prim.Native.Nat.{ℕ, ◌+◌, ◌-◌, ◌<◌, ◌≤◌}
+use Prim.Native.Nat.{ℕ, ◌+◌, ◌<◌, ◌≤◌}
 use native.Mathlib.Omega.{arith}
 use borrow.Author.Tests.{eq-eqb, ne_eqb, eqb-true, eqb-false, lt-ltb, le-ltb, ltb-true, ltb-false}
 use borrow.Table.Steps.{cases}
 use lib.Dec.{eqb, ltb}
-use lib.ListN.{length, get_or}
-use lib.Seq.{slice, slice_empty, length-slice}
-use Rattle.names.specs.declared.Asked.{Asked}
+use lib.ListN.{length, get_or, take, drop}
+use lib.Seq.{length-take-le}
 use Rattle.names.specs.Names.{space_byte, same}
-use Rattle.names.specs.Asked.{spelling, AskedWithin}
-use Rattle.names.proofs.Parts.{slice-more, slice_cut}
+use Rattle.names.proofs.Parts.{cut_at}
 use Rattle.rows.specs.Order.{less}
 
 -- nothing comes before itself
@@ -86,26 +85,14 @@ less-append (x ∷ xs) [] zs ws e = absurd (omega arith)
 less-append (x ∷ xs) (u ∷ us) zs ws e =
     cases (eqb x u) (λ t. rw t (less-append xs us zs ws (omega arith))) (λ t. rw t)
 
--- two parts, compared by their first bytes
-pub less-more : (s : List ℕ) (first past from to : ℕ) → first < past → past ≤ length s → from < to → to ≤ length s
-    → less (slice first past s) (slice from to s)
-    ≡ cond (eqb (get_or s first 0) (get_or s from 0)) (less (slice (first + 1) past s) (slice (from + 1) to s)) (ltb (get_or s first 0) (get_or s from 0))
+-- of two, one of which is at its end, the shorter one comes first; so it does of the wholes, of which the same has been passed
+pub less_ended : (xs ys : List ℕ) (a b : ℕ) → a + length ys ≡ b + length xs → (length xs ≡ 0) ⊎ (length ys ≡ 0) → less xs ys ≡ ltb a b
 unfolding less
-less-more s first past from to some inside some' inside' =
-    rw (slice-more s first past some inside, slice-more s from to some' inside')
-
--- nothing comes before no bytes, and no bytes before any
-pub less-nothing : (xs : List ℕ) → less xs [] ≡ false
-unfolding less
-less-nothing [] = refl
-less-nothing (x ∷ xs) = refl
-
-pub nothing-less : (s : List ℕ) (from to : ℕ) → from ≤ to → to ≤ length s → less [] (slice from to s) ≡ ltb from to
-unfolding less
-nothing-less s from to order inside =
-    cases (ltb from to)
-    (λ t. let l : from < to = ltb-true from to t in rw (t, slice-more s from to l inside))
-    (λ t. let e : from ≡ to = omega (arith, ltb-false from to t) in rw (t, e, slice_empty to s))
+less_ended [] [] a b e n = sym (le-ltb a b (omega (arith, e)))
+less_ended [] (y ∷ ys) a b e n = sym (lt-ltb a b (omega (arith, e)))
+less_ended (x ∷ xs) [] a b e n = sym (le-ltb a b (omega (arith, e)))
+less_ended (x ∷ xs) (y ∷ ys) a b e (inl n) = absurd (omega (arith, n))
+less_ended (x ∷ xs) (y ∷ ys) a b e (inr n) = absurd (omega (arith, n))
 
 -- of two, one at most comes before the other
 pub less-once : (xs ys : List ℕ) → less xs ys ≡ true → less ys xs ≡ false
@@ -120,31 +107,16 @@ less-once (x ∷ xs) (y ∷ ys) t =
     let l : x < y = ltb-true x y (rw v at t) in
     rw (ne_eqb y x (λ e. eqb-false x y v (sym e)), le-ltb y x (omega arith)))
 
--- a name of two parts, compared with a part of the stream
-module _ (s : List ℕ) (asked : Asked) (within : AskedWithin s asked) (joined : asked.joined ≡ true) (from to : ℕ) (order : from ≤ to)
-    (inside : to ≤ length s) where
-  abbrev size : ℕ
-  size = asked.past - asked.first
-
+-- a name of two parts, compared with another
+module _ (front back name : List ℕ) where
   abbrev at : ℕ
-  at = from + size
+  at = length front
 
-  long : length (slice asked.first asked.past s) ≡ size
-  long = length-slice asked.first asked.past s within.first_inside
-
-  pub joined-short : to - from ≤ size → less (spelling s asked) (slice from to s) ≡ less (slice asked.first asked.past s) (slice from to s)
-  joined-short l =
-      rw joined
-      (less-short (slice asked.first asked.past s) (space_byte ∷ slice asked.from asked.to s) (slice from to s)
-      (omega (arith, long, length-slice from to s inside)))
-
-  pub joined-long : size < to - from → less (spelling s asked) (slice from to s)
-      ≡ cond (same (slice asked.first asked.past s) (slice from at s))
-      (cond (eqb space_byte (get_or s at 0)) (less (slice asked.from asked.to s) (slice (at + 1) to s)) (ltb space_byte (get_or s at 0)))
-      (less (slice asked.first asked.past s) (slice from at s))
+  pub joined-long : at < length name → less (front ++ space_byte ∷ back) name
+      ≡ cond (same front (take at name))
+      (cond (eqb space_byte (get_or name at 0)) (less back (drop (at + 1) name)) (ltb space_byte (get_or name at 0)))
+      (less front (take at name))
   unfolding less
   joined-long l =
-      let cut : length (slice from at s) ≡ at - from = length-slice from at s (omega arith) in
-      rw (joined, slice_cut s from at to (omega arith) (omega arith) inside)
-      (less-append (slice asked.first asked.past s) (slice from at s) (space_byte ∷ slice asked.from asked.to s) (get_or s at 0 ∷ slice (at + 1) to s)
-      (omega (arith, long)))
+      ap (less (front ++ space_byte ∷ back)) (cut_at at name l)
+      ∙ less-append front (take at name) (space_byte ∷ back) (get_or name at 0 ∷ drop (at + 1) name) (sym (length-take-le at name (omega (arith, l))))

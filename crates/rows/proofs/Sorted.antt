@@ -1,5 +1,5 @@
 -- A search among rows in order keeps half of them at each turn; a row more goes to the place of its key, the later ones one further.
-use mathlib.Core.Path.{◌≡◌, refl, sym, ◌∙◌, subst}
+use mathlib.Core.Path.{◌≡◌, sym, ◌∙◌, subst}
 use mathlib.Core.Bool.{true, false, true≢false}
 use mathlib.Core.List.{List}
 use Prim.Native.Nat.{ℕ, ◌+◌, ◌-◌, ◌<◌, ◌≤◌}
@@ -71,29 +71,6 @@ between-met b met = record {
   ends = omega (arith, b.narrows, b.ends);
   before = b.before;
   after = λ i l. b.after i (omega arith);
-}
-
-pub shift_none : (next : List ℕ) (n : ℕ) → Shifted next next n n
-shift_none next n = record {
-  size = refl;
-  before = λ i l. refl;
-  moved = λ i l m. absurd (omega arith);
-  beyond = λ i l. refl;
-}
-
-pub shift-more : {next next' : List ℕ} {p n : ℕ} → Shifted next next' p n → 0 < p → p ≤ n → n < length next
-    → Shifted next (set next' p (get_or next' (p - 1) 0)) (p - 1) n
-shift-more {next} {next'} {p} {n} m some low room = record {
-  size = length-set next' p (get_or next' (p - 1) 0) ∙ m.size;
-  before = λ i l.
-      get_or-set_other next' p i (get_or next' (p - 1) 0) 0 (λ e. absurd (omega arith)) ∙ m.before i (omega arith);
-  moved = λ i l.
-      lies (λ (k : ℕ). k ≤ n → get_or (set next' p (get_or next' (p - 1) 0)) k 0 ≡ get_or next (k - 1) 0) p i
-      (λ a. absurd (omega arith))
-      (λ a. get_or-set_same next' p (get_or next' (p - 1) 0) 0 (omega (arith, m.size)) ∙ m.before (p - 1) (omega arith))
-      (λ a b. get_or-set_other next' p i (get_or next' (p - 1) 0) 0 (λ e. absurd (omega arith)) ∙ m.moved i a b);
-  beyond = λ i l.
-      get_or-set_other next' p i (get_or next' (p - 1) 0) 0 (λ e. absurd (omega arith)) ∙ m.beyond i l;
 }
 
 -- row n is put at p, once there is room

@@ -1,12 +1,10 @@
 -- An index of the values that the rows of a table have at one column: a chain of rows for each bucket of their hashes.
 -- `head` has for each bucket its last row, `next` for each row the one before it in its bucket; a row is stored as its number and 1, none as 0.
-use Rattle.std.specs.Prelude.{◌≡◌, Bool, ◌&&◌, List, ◌⊎◌, ℕ, ◌+◌, ◌-◌, ◌<◌, ◌≤◌, eqb, length, get_or}
+use Rattle.std.specs.Prelude.{◌≡◌, Bool, ◌&&◌, List, ◌⊎◌, ℕ, ◌+◌, ◌-◌, ◌<◌, ◌≤◌, eqb, length, get_or, Option, Some, None}
 use Rattle.names.specs.Names.{same}
 use Rattle.names.specs.Hash.{hashes, hash, bucket}
 use Rattle.rows.specs.Columns.{kind_at, value_at, Present}
 use Rattle.rows.specs.Rows.{name_space_of}
-use Rattle.rows.specs.declared.RowFound.{RowFound}
-use Rattle.rows.specs.declared.RowFound.TheVariants.{At, Nothing}
 
 -- the bucket of row j's value
 abbrev pub bucket_at : (s rows : List ℕ) (column buckets j : ℕ) → ℕ
@@ -50,6 +48,6 @@ abbrev pub named : (s rows : List ℕ) (column name_space : ℕ) (bytes : List �
 named s rows column name_space bytes j = eqb (name_space_of (kind_at rows j)) name_space && same bytes (value_at s rows column j)
 
 -- what a look-up answers: the last such row, or that there is none
-abbrev pub FindsRow : (s rows : List ℕ) (column n name_space : ℕ) (bytes : List ℕ) → RowFound → Type 0
-FindsRow s rows column n name_space bytes (At j) = Has s rows column n name_space bytes j × ((k : ℕ) → j < k → Has s rows column n name_space bytes k → ⊥)
-FindsRow s rows column n name_space bytes Nothing = (k : ℕ) → Has s rows column n name_space bytes k → ⊥
+abbrev pub FindsRow : (s rows : List ℕ) (column n name_space : ℕ) (bytes : List ℕ) → Option ℕ → Type 0
+FindsRow s rows column n name_space bytes (Some j) = Has s rows column n name_space bytes j × ((k : ℕ) → j < k → Has s rows column n name_space bytes k → ⊥)
+FindsRow s rows column n name_space bytes None = (k : ℕ) → Has s rows column n name_space bytes k → ⊥

@@ -1,12 +1,10 @@
 -- The rows of a table from one on, in the order of their name spaces and their values at a column; equal ones in the order of the table.
 -- `next` is the links of an index by hash for the rows before that one, and from there on the numbers of the rows in order.
 -- Its last number is 0 while all rows are in chains, and then one more than how many are.
-use Rattle.std.specs.Prelude.{◌≡◌, true, false, cond, List, ◌∷◌, ℕ, zero, suc, ◌-◌, ◌<◌, ◌≤◌, eqb, length, get_or}
+use Rattle.std.specs.Prelude.{◌≡◌, true, false, cond, List, ◌∷◌, ℕ, zero, suc, ◌-◌, ◌<◌, ◌≤◌, eqb, length, get_or, Option, Some, None}
 use Rattle.rows.specs.Rows.{name_space_of}
 use Rattle.rows.specs.Columns.{kind_at, value_at}
 use Rattle.rows.specs.Chains.{Indexed, Has, FindsRow}
-use Rattle.rows.specs.declared.RowFound.{RowFound}
-use Rattle.rows.specs.declared.RowFound.TheVariants.{At, Nothing}
 use Rattle.rows.specs.Order.{less}
 
 -- what row j is ordered by; a row with no value there has the name space alone
@@ -43,9 +41,9 @@ pub record Between (s rows : List ℕ) (column : ℕ) (next : List ℕ) (from n 
   pub after : (i : ℕ) → high ≤ i → i < n → less key (key_at s rows column (get_or next i 0)) ≡ true
 
 -- what a search among them answers: the last row with the bytes, or that none of them has these
-abbrev pub FindsFrom : (s rows : List ℕ) (column from n name_space : ℕ) (bytes : List ℕ) → RowFound → Type 0
-FindsFrom s rows column from n name_space bytes (At j) = FindsRow s rows column n name_space bytes (At j)
-FindsFrom s rows column from n name_space bytes Nothing = (k : ℕ) → from ≤ k → Has s rows column n name_space bytes k → ⊥
+abbrev pub FindsFrom : (s rows : List ℕ) (column from n name_space : ℕ) (bytes : List ℕ) → Option ℕ → Type 0
+FindsFrom s rows column from n name_space bytes (Some j) = FindsRow s rows column n name_space bytes (Some j)
+FindsFrom s rows column from n name_space bytes None = (k : ℕ) → from ≤ k → Has s rows column n name_space bytes k → ⊥
 
 -- the last number, and how many of the first n rows are in chains
 abbrev pub mark_of : (next : List ℕ) → ℕ

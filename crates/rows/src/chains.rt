@@ -1,33 +1,13 @@
 // Look-up by hash: a chain of rows for each bucket of their hashes, each next one an earlier row.
-ghost use Rattle.std.specs.Prelude.{◌≡◌, ◌+◌, ◌*◌, ◌<◌, ◌≤◌, length};
-ghost use Rattle.names.specs.Asked.{spelling, AskedWithin};
+ghost use Rattle.std.specs.Prelude.{◌≡◌, ◌+◌, ◌<◌, length};
+ghost use Rattle.names.specs.Asked.{spelling};
 ghost use Rattle.names.specs.Hash.{hash, bucket};
-ghost use Rattle.rows.specs.Rows.{scratch_width};
-ghost use Rattle.rows.specs.Columns.{first_at, past_at, value_at, Bounded};
-ghost use Rattle.rows.specs.Chains.{Indexed, Links, named, FindsRow};
+ghost use Rattle.rows.specs.Columns.{value_at, Bounded};
+ghost use Rattle.rows.specs.Chains.{Indexed, Links, FindsRow};
 ghost use Rattle.rows.specs.Index.{links_begin, heads_of, links_of};
 
-use super::{RowFound, SCRATCH_WIDTH, links_begin, space_of, wide16, wide32};
+use super::{SCRATCH_WIDTH, links_begin, order};
 use names::Asked;
-
-// Whether row j is of the name space and has the name asked for.
-fn has(s: &[u8], rows: &[u32], column: usize, j: usize, space: u8, asked: Asked) -> bool
-    requires column_bound { column + 1 < scratch_width }
-    requires scratch_width_in_bounds { j * scratch_width + scratch_width ≤ length rows.now }
-    requires j_bound { first_at rows.now column j ≤ past_at rows.now column j }
-    requires j_in_bounds { past_at rows.now column j ≤ length s.now }
-    requires asked_within { AskedWithin s.now asked }
-    ensures { result ≡ named s.now rows.now column space (spelling s.now asked) j }
-{
-    let at = j * SCRATCH_WIDTH;
-    let own = space_of(wide32(rows[at]));
-    if own != space {
-        return false;
-    }
-    let first = wide32(rows[at + column]);
-    let past = wide32(rows[at + column + 1]);
-    names::is_asked(s, asked, first, past)
-}
 
 // The last of the first n rows that is of the name space and has the name asked for, whose hash is `hashed`.
 pub fn find(
@@ -40,22 +20,22 @@ pub fn find(
     space: u8,
     hashed: usize,
     asked: Asked,
-) -> RowFound
+) -> Option<usize>
     requires bounded { Bounded s.now rows.now column n }
     requires indexed { Indexed s.now rows.now column head.now next.now n }
-    requires asked_within { AskedWithin s.now asked }
-    requires hashed_value { hashed ≡ hash (spelling s.now asked) }
-    ensures { FindsRow s.now rows.now column n space (spelling s.now asked) result }
+    requires hashed_value { hashed ≡ hash (spelling asked) }
+    ensures { FindsRow s.now rows.now column n space (spelling asked.entry) result }
 {
-    let mut link = wide16(head[names::bucket_of(head.len(), hashed)]);
+    let mut link = head[names::bucket_of(head.len(), hashed)] as usize;
+    // A chain is walked by its links, as each row's number stands in the one before: an iterator for it is no plainer.
     while 0 < link {
         let j = link - 1;
-        if has(s, rows, column, j, space, asked) {
-            return RowFound::At(j);
+        if order::has(s, rows, column, j, space, asked) {
+            return Some(j);
         }
-        link = wide16(next[j]);
+        link = next[j] as usize;
     }
-    RowFound::Nothing
+    None
 }
 
 // Adds row n, if it has a value there. `hashed` is that value's hash, by which the caller has looked it up before.

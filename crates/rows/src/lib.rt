@@ -12,7 +12,7 @@ mod places; // places.rt: rows in order, searched and added to
 mod readers; // readers.rt: what a row has at a column
 
 pub use lookup::{find, insert};
-pub use readers::{bounds_at, is_either, is_named, is_there, kind_at, portions_at};
+pub use readers::{bounds_at, is_either, is_named, is_there, kind_at, portions_at, value_at};
 
 // Numbers a row, and where a row has the first of its element, of its identifier, of its logical identifier and of its portions.
 pub const SCRATCH_WIDTH: usize = 12;
@@ -25,7 +25,7 @@ pub const LOGICAL: usize = 6;
 
 pub const PORTIONS: usize = 8;
 
-// The kinds of elements that the code tells apart.
+// The kinds of elements that the code tells apart: numbers, as the rows lie in lent memory, which C reads as well.
 pub const PROFILE: usize = 0;
 
 pub const LAYOUT_CLASS: usize = 1;
@@ -44,25 +44,6 @@ pub const OBJECTS: u8 = 1;
 pub const UNITS: u8 = 2;
 
 const SPACES: [u8; 9] = [0, 1, 1, 2, 0, 1, 1, 3, 3];
-
-// What a look-up answers: a row's number, or that there is none.
-#[derive(Clone, Copy)]
-pub enum RowFound {
-    At(usize),
-    Nothing,
-}
-
-fn wide16(x: u16) -> usize
-    ensures { result ≡ x }
-{
-    x as usize
-}
-
-fn wide32(x: u32) -> usize
-    ensures { result ≡ x }
-{
-    x as usize
-}
 
 // Where the links of an index begin, after its heads. The mailroom's box divides by a call, so there is no quotient.
 fn links_begin(size: usize) -> usize
@@ -98,8 +79,8 @@ pub fn half_of(size: usize) -> usize
 pub fn space_of(kind: usize) -> u8
     ensures { result ≡ name_space_of kind }
 {
-    if kind < SPACES.len() {
-        return SPACES[kind];
+    match SPACES.get(kind) {
+        Some(space) => *space,
+        None => 0,
     }
-    0
 }

@@ -1,14 +1,14 @@
 // Look-up of a table's rows by name, whoever chose the names: by hash in chains of few rows, and, from the first row on for which a chain
 // has no room, in order of the names, searched by halves.
 ghost use Rattle.std.specs.Prelude.{◌≡◌, true, ◌+◌, ◌<◌, length, get_or};
-ghost use Rattle.names.specs.Asked.{spelling, AskedWithin};
+ghost use Rattle.names.specs.Asked.{spelling};
 ghost use Rattle.names.specs.Hash.{hash};
 ghost use Rattle.rows.specs.Columns.{value_at, Bounded};
 ghost use Rattle.rows.specs.Chains.{FindsRow};
 ghost use Rattle.rows.specs.Lookup.{chained, AtMost, Linked};
 ghost use Rattle.rows.specs.Index.{links_begin, heads_of, links_of, Filed};
 
-use super::{RowFound, SCRATCH_WIDTH, chains, links_begin, places, wide16};
+use super::{SCRATCH_WIDTH, chains, links_begin, places};
 use names::Asked;
 
 // Most rows of a chain. Names that nobody chose for it come nowhere near.
@@ -19,7 +19,7 @@ fn chained_of(next: &[u16], n: usize) -> usize
     requires { 0 < length next.now }
     ensures { result ≡ chained next.now n }
 {
-    let mark = wide16(next[next.len() - 1]);
+    let mark = next[next.len() - 1] as usize;
     if mark == 0 {
         return n;
     }
@@ -31,16 +31,14 @@ fn is_short(head: &[u16], next: &[u16], n: usize, bucket: usize) -> bool
     requires { Linked head.now next.now n × (bucket < length head.now) }
     ensures { result ≡ true → AtMost next.now 7 (get_or head.now bucket 0) }
 {
-    let mut link = wide16(head[bucket]);
-    let mut left = LONGEST_CHAIN;
-    while 0 < link {
-        left -= 1;
-        if left == 0 {
-            return false;
+    let mut link = head[bucket] as usize;
+    for _ in 1..LONGEST_CHAIN {
+        if link == 0 {
+            return true;
         }
-        link = wide16(next[link - 1]);
+        link = next[link - 1] as usize;
     }
-    true
+    link == 0
 }
 
 // Whether the chain of a bucket of an index has room for a row more.
@@ -62,20 +60,19 @@ fn find_any(
     space: u8,
     hashed: usize,
     asked: Asked,
-) -> RowFound
+) -> Option<usize>
     requires bounded { Bounded s.now rows.now column n }
     requires filed { Filed s.now rows.now column index.now n }
-    requires asked_within { AskedWithin s.now asked }
-    requires hashed_value { hashed ≡ hash (spelling s.now asked) }
-    ensures { FindsRow s.now rows.now column n space (spelling s.now asked) result }
+    requires hashed_value { hashed ≡ hash (spelling asked) }
+    ensures { FindsRow s.now rows.now column n space (spelling asked.entry) result }
 {
     let links = links_begin(index.len());
     let head = &index[..links];
     let next = &index[links..];
     let from = chained_of(next, n);
     match places::find_later(s, rows, next, from, n, column, space, asked) {
-        RowFound::At(j) => RowFound::At(j),
-        RowFound::Nothing => chains::find(s, rows, head, next, from, column, space, hashed, asked),
+        Some(j) => Some(j),
+        None => chains::find(s, rows, head, next, from, column, space, hashed, asked),
     }
 }
 
@@ -89,18 +86,17 @@ pub fn find(
     space: u8,
     hashed: usize,
     asked: Asked,
-) -> RowFound
+) -> Option<usize>
     requires bounded { Bounded s.now rows.now column n }
     requires filed { Filed s.now rows.now column index.now n }
-    requires asked_within { AskedWithin s.now asked }
-    requires hashed_value { hashed ≡ hash (spelling s.now asked) }
-    ensures { FindsRow s.now rows.now column n space (spelling s.now asked) result }
+    requires hashed_value { hashed ≡ hash (spelling asked) }
+    ensures { FindsRow s.now rows.now column n space (spelling asked.entry) result }
 {
     if index[index.len() - 1] != 0 {
         return find_any(s, rows, index, n, column, space, hashed, asked);
     }
     if index[names::bucket_of(links_begin(index.len()), hashed)] == 0 {
-        return RowFound::Nothing;
+        return None;
     }
     find_any(s, rows, index, n, column, space, hashed, asked)
 }
@@ -117,7 +113,7 @@ fn insert_any(s: &[u8], rows: &[u32], index: &mut [u16], n: usize, column: usize
 {
     let last = index.len() - 1;
     let links = links_begin(index.len());
-    let mark = wide16(index[last]);
+    let mark = index[last] as usize;
     if mark != 0 {
         places::put_in_order(s, rows, &mut index[links..], mark - 1, n, column);
         return;

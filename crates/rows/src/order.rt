@@ -1,80 +1,48 @@
-// The order of rows: by their name space and then their name, as a dictionary has it, compared where they stand.
-ghost use Rattle.std.specs.Prelude.{◌≡◌, ◌&&◌, ◌∷◌, ◌+◌, ◌*◌, ◌<◌, ◌≤◌, ltb, length};
-ghost use Rattle.std.proofs.Math.Seq.{slice};
-ghost use Rattle.names.specs.Names.{same};
-ghost use Rattle.names.specs.Asked.{spelling, AskedWithin};
+// The order of rows: by their name space and then their name, as a dictionary has it, compared where they stand; and whether a row has a name.
+ghost use Rattle.std.specs.Prelude.{◌≡◌, ◌&&◌, ◌∷◌, ◌+◌, ◌*◌, ◌<◌, ◌≤◌, length};
+ghost use Rattle.names.specs.Asked.{spelling};
 ghost use Rattle.rows.specs.Rows.{scratch_width};
-ghost use Rattle.rows.specs.Columns.{first_at, past_at};
+ghost use Rattle.rows.specs.Columns.{first_at, past_at, span_at, there};
 ghost use Rattle.rows.specs.Chains.{named};
 ghost use Rattle.rows.specs.Order.{less};
 ghost use Rattle.rows.specs.Lookup.{key_at};
 
-use super::{SCRATCH_WIDTH, space_of, wide32};
+use super::{readers, space_of};
 use names::{Asked, SPACE};
 
-// Whether s[first..past] comes before s[from..to].
-fn is_less(s: &[u8], first: usize, past: usize, from: usize, to: usize) -> bool
-    requires { (first ≤ past) × (past ≤ length s.now) × (from ≤ to) × (to ≤ length s.now) }
-    ensures { result ≡ less (slice first past s.now) (slice from to s.now) }
+// Whether one name comes before another. A loop, as `<` on slices calls a C library's function, which not every machine has.
+fn is_less(a: &[u8], b: &[u8]) -> bool
+    ensures { result ≡ less a.now b.now }
 {
-    let mut i = first;
-    let mut j = from;
-    while i < past {
-        if j == to {
-            return false;
+    for (x, y) in a.iter().zip(b) {
+        if x != y {
+            return x < y;
         }
-        if s[i] != s[j] {
-            return s[i] < s[j];
-        }
-        i += 1;
-        j += 1;
     }
-    j < to
+    a.len() < b.len()
 }
 
-// Whether the name asked for comes before s[from..to], compared in place.
-fn is_asked_less(s: &[u8], asked: Asked, from: usize, to: usize) -> bool
-    requires { AskedWithin s.now asked × (from ≤ to) × (to ≤ length s.now) }
-    ensures { result ≡ less (spelling s.now asked) (slice from to s.now) }
+// Whether the name asked for comes before another, compared in its parts.
+fn is_asked_less(asked: Asked, name: &[u8]) -> bool
+    ensures { result ≡ less (spelling asked.entry) name.now }
 {
-    if !asked.joined {
-        return is_less(s, asked.first, asked.past, from, to);
+    let size = asked.front.len();
+    match asked.back {
+        None => is_less(asked.front, name),
+        Some(back) => {
+            if name.len() <= size {
+                return is_less(asked.front, name);
+            }
+            let start = &name[..size];
+            if !names::is_same(asked.front, start) {
+                return is_less(asked.front, start);
+            }
+            if name[size] != SPACE {
+                return SPACE < name[size];
+            }
+            is_less(back, &name[size + 1..])
+        }
     }
-    let size = asked.past - asked.first;
-    if to - from <= size {
-        return is_less(s, asked.first, asked.past, from, to);
-    }
-    let at = from + size;
-    if !names::is_same(s, asked.first, asked.past, from, at) {
-        return is_less(s, asked.first, asked.past, from, at);
-    }
-    if s[at] != SPACE {
-        return SPACE < s[at];
-    }
-    is_less(s, asked.from, asked.to, at + 1, to)
-}
-
-// Whether s[first..past] is the name asked for. It is `names::is_asked` once more, so that the chains have that one to themselves and
-// it is made part of their loop.
-fn is_spelt(s: &[u8], asked: Asked, first: usize, past: usize) -> bool
-    requires { AskedWithin s.now asked × (first ≤ past) × (past ≤ length s.now) }
-    ensures { result ≡ same (spelling s.now asked) (slice first past s.now) }
-{
-    if !asked.joined {
-        return names::is_same(s, asked.first, asked.past, first, past);
-    }
-    let size = asked.past - asked.first;
-    if past - first != size + 1 + (asked.to - asked.from) {
-        return false;
-    }
-    let at = first + size;
-    if !names::is_same(s, asked.first, asked.past, first, at) {
-        return false;
-    }
-    if s[at] != SPACE {
-        return false;
-    }
-    names::is_same(s, asked.from, asked.to, at + 1, past)
 }
 
 // Whether the name asked for, in its name space, comes before row j.
@@ -83,37 +51,41 @@ pub fn is_before(s: &[u8], rows: &[u32], column: usize, j: usize, space: u8, ask
     requires scratch_width_in_bounds { j * scratch_width + scratch_width ≤ length rows.now }
     requires j_bound { first_at rows.now column j ≤ past_at rows.now column j }
     requires j_in_bounds { past_at rows.now column j ≤ length s.now }
-    requires asked_within { AskedWithin s.now asked }
-    ensures { result ≡ less (space ∷ spelling s.now asked) (key_at s.now rows.now column j) }
+    ensures { result ≡ less (space ∷ spelling asked.entry) (key_at s.now rows.now column j) }
 {
-    let at = j * SCRATCH_WIDTH;
-    let own = space_of(wide32(rows[at]));
+    let own = space_of(readers::kind_at(rows, j));
     if own != space {
         return space < own;
     }
-    let first = wide32(rows[at + column]);
-    let past = wide32(rows[at + column + 1]);
-    is_asked_less(s, asked, first, past)
+    is_asked_less(asked, readers::value_at(s, rows, column, j))
 }
 
-// Whether row j has a value, is of the name space and has the name asked for.
+// Whether row j is of the name space and has the name asked for. Inline, as it is part of the loop over a chain.
+#[inline(always)]
+pub fn has(s: &[u8], rows: &[u32], column: usize, j: usize, space: u8, asked: Asked) -> bool
+    requires column_bound { column + 1 < scratch_width }
+    requires scratch_width_in_bounds { j * scratch_width + scratch_width ≤ length rows.now }
+    requires j_bound { first_at rows.now column j ≤ past_at rows.now column j }
+    requires j_in_bounds { past_at rows.now column j ≤ length s.now }
+    ensures { result ≡ named s.now rows.now column space (spelling asked.entry) j }
+{
+    if space_of(readers::kind_at(rows, j)) != space {
+        return false;
+    }
+    names::is_asked(asked, readers::value_at(s, rows, column, j))
+}
+
+// Whether row j has a value besides.
 pub fn is_held(s: &[u8], rows: &[u32], column: usize, j: usize, space: u8, asked: Asked) -> bool
     requires column_bound { column + 1 < scratch_width }
     requires scratch_width_in_bounds { j * scratch_width + scratch_width ≤ length rows.now }
     requires j_bound { first_at rows.now column j ≤ past_at rows.now column j }
     requires j_in_bounds { past_at rows.now column j ≤ length s.now }
-    requires asked_within { AskedWithin s.now asked }
-    ensures { result ≡ (ltb (first_at rows.now column j) (past_at rows.now column j)
-        && named s.now rows.now column space (spelling s.now asked) j) }
+    ensures { result ≡ (there (span_at rows.now column j)
+        && named s.now rows.now column space (spelling asked.entry) j) }
 {
-    let at = j * SCRATCH_WIDTH;
-    let first = wide32(rows[at + column]);
-    let past = wide32(rows[at + column + 1]);
-    if first == past {
+    if !readers::is_there(readers::bounds_at(rows, j, column)) {
         return false;
     }
-    if space_of(wide32(rows[at])) != space {
-        return false;
-    }
-    is_spelt(s, asked, first, past)
+    has(s, rows, column, j, space, asked)
 }

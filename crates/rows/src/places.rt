@@ -1,12 +1,13 @@
 // Rows in order: the place of a name among them, searched by halves; the last row with a name; and a row more.
 ghost use Rattle.std.specs.Prelude.{◌∷◌, ◌+◌, ◌<◌, ◌≤◌, length};
-ghost use Rattle.names.specs.Asked.{spelling, AskedWithin};
+ghost use Rattle.names.specs.Asked.{spelling};
 ghost use Rattle.rows.specs.Columns.{Bounded};
 ghost use Rattle.rows.specs.Lookup.{Ordered, Between, FindsFrom, Shifted, Around};
 
-use super::{RowFound, SCRATCH_WIDTH, order, space_of, wide16, wide32};
+use super::{order, readers, space_of};
 use names::Asked;
 
+// By halves in a loop: a library's search takes a closure over the rows, which is no plainer.
 // Where the name asked for would go among the rows from `from` on, which are in order: after those that don't come after it.
 fn place(
     s: &[u8],
@@ -20,14 +21,13 @@ fn place(
 ) -> usize
     requires bounded { Bounded s.now rows.now column n }
     requires ordered { Ordered s.now rows.now column next.now from n }
-    requires asked_within { AskedWithin s.now asked }
-    ensures { Between s.now rows.now column next.now from n (space ∷ spelling s.now asked) result result }
+    ensures { Between s.now rows.now column next.now from n (space ∷ spelling asked.entry) result result }
 {
     let mut low = from;
     let mut high = n;
     while low < high {
         let middle = low + (high - low) / 2;
-        if order::is_before(s, rows, column, wide16(next[middle]), space, asked) {
+        if order::is_before(s, rows, column, next[middle] as usize, space, asked) {
             high = middle;
         } else {
             low = middle + 1;
@@ -41,11 +41,7 @@ fn shift(next: &mut [u16], p: usize, n: usize)
     requires { (p ≤ n) × (n < length next.old) }
     ensures { Shifted next.old next.new p n }
 {
-    let mut i = n;
-    while p < i {
-        next[i] = next[i - 1];
-        i -= 1;
-    }
+    next.copy_within(p..n, p + 1);
 }
 
 // The last of the rows from `from` on, which are in order, that is of the name space and has the name asked for.
@@ -58,21 +54,20 @@ fn find_in_order(
     column: usize,
     space: u8,
     asked: Asked,
-) -> RowFound
+) -> Option<usize>
     requires bounded { Bounded s.now rows.now column n }
     requires ordered { Ordered s.now rows.now column next.now from n }
-    requires asked_within { AskedWithin s.now asked }
-    ensures { FindsFrom s.now rows.now column from n space (spelling s.now asked) result }
+    ensures { FindsFrom s.now rows.now column from n space (spelling asked.entry) result }
 {
     let p = place(s, rows, next, from, n, column, space, asked);
     if p == from {
-        return RowFound::Nothing;
+        return None;
     }
-    let j = wide16(next[p - 1]);
+    let j = next[p - 1] as usize;
     if order::is_held(s, rows, column, j, space, asked) {
-        return RowFound::At(j);
+        return Some(j);
     }
-    RowFound::Nothing
+    None
 }
 
 // Finds a row among those in order, where mostly there are none.
@@ -85,14 +80,13 @@ pub fn find_later(
     column: usize,
     space: u8,
     asked: Asked,
-) -> RowFound
+) -> Option<usize>
     requires bounded { Bounded s.now rows.now column n }
     requires ordered { Ordered s.now rows.now column next.now from n }
-    requires asked_within { AskedWithin s.now asked }
-    ensures { FindsFrom s.now rows.now column from n space (spelling s.now asked) result }
+    ensures { FindsFrom s.now rows.now column from n space (spelling asked.entry) result }
 {
     if from == n {
-        return RowFound::Nothing;
+        return None;
     }
     find_in_order(s, rows, next, from, n, column, space, asked)
 }
@@ -105,16 +99,10 @@ pub fn put_in_order(s: &[u8], rows: &[u32], next: &mut [u16], from: usize, n: us
     ensures ordered_2 { Ordered s.now rows.now column next.new from (n + 1) }
     ensures around { Around next.old next.new from n }
 {
-    let at = n * SCRATCH_WIDTH;
-    let space = space_of(wide32(rows[at]));
-    let first = wide32(rows[at + column]);
-    let past = wide32(rows[at + column + 1]);
+    let space = space_of(readers::kind_at(rows, n));
     let asked = Asked {
-        first,
-        past,
-        joined: false,
-        from: 0,
-        to: 0,
+        front: readers::value_at(s, rows, column, n),
+        back: None,
     };
     let p = place(s, rows, next, from, n, column, space, asked);
     shift(next, p, n);

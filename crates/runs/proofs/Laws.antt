@@ -9,11 +9,11 @@ use lib.Dec.{leb}
 use lib.ListN.{length}
 use lib.Seq.{slice}
 use borrow.Author.Tests.{leb-true, le-leb}
-use Rattle.octets.specs.declared.Outcome.{Outcome}
-use Rattle.octets.specs.declared.Outcome.TheVariants.{Ended, Refused}
+use Rattle.octets.specs.Told.{Outcome, ended, refused}
 use Rattle.headers.specs.Head.{constructed, type_field}
 use Rattle.octets.specs.Walk.{Items, no_items, item, count, End, ends, stops, stream_limit, outcome_of, answer, walk_of, start_of}
 use Rattle.octets.specs.Rules.{Runs, at_limit, unclosed, closes, refuses, primitive, passes, breaks}
+use Rattle.octets.proofs.Told.{same-ended}
 use Rattle.octets.proofs.Walks.{EndOk, run_ok}
 use Rattle.octets.proofs.Turns.{answer-ends}
 use Rattle.octets.proofs.RulesHold.{derives}
@@ -24,7 +24,7 @@ use Rattle.runs.specs.Runs.{walk_in, items_of, tree_in, whole_stream, tops, Fine
 use Rattle.runs.proofs.Heads.{mark-marked}
 use Rattle.runs.proofs.Ends.{ends-right, ends-at-limit}
 
-not-refused : (b : Bool) (o : Outcome) (at n : ℕ) → cond b o (Refused 1 0 0) ≡ Ended at n → (b ≡ true) × (o ≡ Ended at n)
+not-refused : (b : Bool) (o : Outcome) (at n : ℕ) → cond b o (refused 1 0 0) ≡ ended at n → (b ≡ true) × (o ≡ ended at n)
 not-refused true o at n p = (refl, p)
 not-refused false o at n p = let z : ◌≡◌ {A = ℕ} 0 1 = cc in absurd (omega arith)
 
@@ -32,12 +32,12 @@ ends-whole : (e : End) (at : ℕ) → e ≡ ends at → Whole e
 ends-whole e at p = rw p tt
 
 -- a stream whose walk ended is within the limit
-pub stream-within : (s : List ℕ) (at n : ℕ) → walk_of s ≡ Ended at n → length s ≤ stream_limit
+pub stream-within : (s : List ℕ) (at n : ℕ) → walk_of s ≡ ended at n → length s ≤ stream_limit
 unfolding walk_of
 stream-within s at n p = leb-true _ _ (not-refused (leb (length s) stream_limit) (answer (walk_in s (whole_stream s))) at n p).0
 
 -- where the walk of a stream ended, its run is fine
-pub stream-fine : (s : List ℕ) (at n : ℕ) → walk_of s ≡ Ended at n → Fine s (whole_stream s)
+pub stream-fine : (s : List ℕ) (at n : ℕ) → walk_of s ≡ ended at n → Fine s (whole_stream s)
 unfolding walk_of
 stream-fine s at n p =
     let w = walk_in s (whole_stream s) in
@@ -45,7 +45,7 @@ stream-fine s at n p =
     record { order = omega arith; inside = omega arith; whole = ends-whole w.how at (answer-ends (count w.items) w.how at n q.1) }
 
 -- and the other way round
-pub stream-ended : (s : List ℕ) → length s ≤ stream_limit → Fine s (whole_stream s) → walk_of s ≡ Ended (length s) (count (items_of s (whole_stream s)))
+pub stream-ended : (s : List ℕ) → length s ≤ stream_limit → Fine s (whole_stream s) → walk_of s ≡ ended (length s) (count (items_of s (whole_stream s)))
 unfolding walk_of
 stream-ended s l f =
     let w = walk_in s (whole_stream s) in
@@ -53,12 +53,8 @@ stream-ended s l f =
     rw (le-leb _ _ l) (ap (outcome_of (count w.items)) e)
 
 -- a stream's walk ends at its length, and its header count is that of its items
-pub stream-count : (s : List ℕ) (at n : ℕ) → walk_of s ≡ Ended at n → (at ≡ length s) × (n ≡ count (items_of s (whole_stream s)))
-stream-count s at n p =
-    let q = stream-ended s (stream-within s at n p) (stream-fine s at n p) in
-    let a : at ≡ length s = cc in
-    let b : n ≡ count (items_of s (whole_stream s)) = cc in
-    (a, b)
+pub stream-count : (s : List ℕ) (at n : ℕ) → walk_of s ≡ ended at n → (at ≡ length s) × (n ≡ count (items_of s (whole_stream s)))
+stream-count s at n p = same-ended (sym p ∙ stream-ended s (stream-within s at n p) (stream-fine s at n p))
 
 pub starts-at : {s : List ℕ} {room at limit : ℕ} {marked : Bool} {i : Items} {e : End} → Runs s room at limit marked i e → marked ≡ false → Whole e
     → start_of limit i ≡ at

@@ -13,11 +13,11 @@ use Rattle.headers.specs.declared.Head.{Head}
 use Rattle.headers.specs.declared.Head.TheVariants.{Item, ClosingMark, Refusal}
 use Rattle.headers.specs.Head.{constructed, octet_at, head_at}
 use Rattle.headers.specs.Passed.{Passed}
-use Rattle.octets.specs.Walk.{Items, item, count, End, ends, stops, Walked, ended, past_of, follow, run, outcome_of}
+use Rattle.octets.specs.Walk.{Items, no_items, item, count, End, ends, stops, Walked, ended, past_of, follow, run, outcome_of}
 use Rattle.octets.specs.Values.{value_of}
 use Rattle.headers.proofs.Lies.{Lies}
 use Rattle.octets.proofs.Walks.{run_step}
-use Rattle.octets.proofs.Turns.{header_ok, passed_ok, at_head, tree-ends}
+use Rattle.octets.proofs.Turns.{header_ok, passed_ok, at_head, tree-ends, tree-closes, tree-refuses}
 use Rattle.tree.specs.Accepts.{Whole}
 use Rattle.runs.specs.declared.Run.{Run}
 use Rattle.runs.specs.Runs.{walk_in, items_of, inside_of, tops, Fine, Spans, Meeting}
@@ -97,6 +97,13 @@ passed-by s r fine l (Refusal number place) e =
 
 pub passed : (s : List ℕ) (r : Run) → Fine s r → r.at < r.limit → Passed (head_at s r.at r.limit r.marked r.room)
 passed s r fine l = passed-by s r fine l (head_at s r.at r.limit r.marked r.room) refl
+
+-- where what stands at its place is no item, the run has none
+pub none-met : (s : List ℕ) (r : Run) → r.at < r.limit → (head : Head) → head_at s r.at r.limit r.marked r.room ≡ head
+    → ((h : Header) → head ≡ Item h → ⊥) → items_of s r ≡ no_items
+none-met s r l (Item h) e other = absurd (other h refl)
+none-met s r l ClosingMark e other = tree-closes r.room s r.at r.limit r.marked l e
+none-met s r l (Refusal number place) e other = tree-refuses r.room s r.at r.limit r.marked l number place e
 
 module _ (s : List ℕ) (r : Run) (fine : Fine s r) (l : r.at < r.limit) (h : Header)
     (e : head_at s r.at r.limit r.marked r.room ≡ Item h) where

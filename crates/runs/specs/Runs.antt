@@ -2,7 +2,7 @@
 -- a value of its own. The run ends exactly at the definite length, or at the closing mark."
 -- After this crate nobody but the normal form's writer looks at headers, limits or closing marks: a pass asks what is met, and goes on.
 -- Only runs that were walked without a refusal are met (`Fine`).
-use Rattle.std.specs.Prelude.{◌≡◌, Bool, cond, false, true, not, ◌&&◌, List, ℕ, ◌≤◌, ◌-◌, suc, ◌+◌, ◌<◌, length}
+use Rattle.std.specs.Prelude.{◌≡◌, Bool, cond, false, true, not, ◌&&◌, List, ℕ, ◌≤◌, ◌-◌, suc, ◌+◌, ◌<◌, length, Option, Some, None}
 use Rattle.headers.specs.declared.Header.{Header}
 use Rattle.headers.specs.Head.{constructed}
 use Rattle.octets.specs.Walk.{Walked, run, Items, deepest, no_items, item, ends}
@@ -10,7 +10,6 @@ use Rattle.tree.specs.Tree.{Tree, plain}
 use Rattle.tree.specs.Accepts.{Whole}
 use Rattle.runs.specs.declared.Run.{Run}
 use Rattle.runs.specs.declared.Met.{Met}
-use Rattle.runs.specs.declared.Met.TheVariants.{Item, End}
 
 -- the walk of a run
 abbrev pub walk_in : List ℕ → Run → Walked
@@ -79,6 +78,6 @@ pub record Meeting (s : List ℕ) (r : Run) (code first past : ℕ) (inner rest 
   pub less : rest.limit - rest.at < r.limit - r.at
 
 -- what is met: an item, or the run's end, where it has no item
-abbrev pub Meets : List ℕ → Run → Met → Type 0
-Meets s r (Item code first past inner rest) = Meeting s r code first past inner rest
-Meets s r End = items_of s r ≡ no_items
+abbrev pub Meets : List ℕ → Run → Option Met → Type 0
+Meets s r (Some met) = Meeting s r met.code met.first met.past met.inner met.rest
+Meets s r None = items_of s r ≡ no_items

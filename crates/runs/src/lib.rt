@@ -20,18 +20,15 @@ pub struct Run {
     pub room: usize,
 }
 
-// What is met at the start of a run: an item with its value from `first` to `past`, the run inside it and the rest of the run; or
-// the run's end.
+// An item that is met at the start of a run: the code of its type field, its value from `first` to `past`, the run inside it and the rest of
+// the run.
 #[derive(Clone, Copy)]
-pub enum Met {
-    Item {
-        code: usize,
-        first: usize,
-        past: usize,
-        inner: Run,
-        rest: Run,
-    },
-    End,
+pub struct Met {
+    pub code: usize,
+    pub first: usize,
+    pub past: usize,
+    pub inner: Run,
+    pub rest: Run,
 }
 
 // The run inside an item: a primitive has an empty one, at its end. A primitive is never marked, so the mark is copied and not
@@ -73,6 +70,7 @@ fn end_of_item(s: &[u8], h: Header, room: usize) -> usize
 }
 
 // Where an indefinite value that is known to be whole ends, past its closing mark. What is definite in it is passed in one step.
+// Each item tells where the next one stands, so the loop goes over no range.
 #[cycle(end_of_item_end_of_marked)]
 fn end_of_marked(s: &[u8], from: usize, limit: usize, room: usize) -> usize
     requires { (from ≤ limit) × (limit ≤ length s.now) × Whole (run room s.now from limit true).how }
@@ -81,12 +79,9 @@ fn end_of_marked(s: &[u8], from: usize, limit: usize, room: usize) -> usize
     let mut at = from;
     loop {
         match headers::passed_head(s, at, limit, true, room) {
-            Head::ClosingMark => return at + 2,
-            Head::Refusal {
-                number: _,
-                place: _,
-            } => return limit,
             Head::Item(h) => at = end_of_item(s, h, room),
+            Head::ClosingMark => return at + 2,
+            Head::Refusal { .. } => return limit,
         }
     }
 }
@@ -96,7 +91,7 @@ fn end_of_marked(s: &[u8], from: usize, limit: usize, room: usize) -> usize
 // the run inside it is told without a test. The compiler is told to make `meet` part of each pass: as a function of its own it takes up to
 // twice the time.
 #[inline(always)]
-pub fn meet(s: &[u8], r: Run) -> Met
+pub fn meet(s: &[u8], r: Run) -> Option<Met>
     requires { Fine s.now r }
     ensures { Meets s.now r result }
 {
@@ -105,52 +100,46 @@ pub fn meet(s: &[u8], r: Run) -> Met
     let marked = r.marked;
     let room = r.room;
     if at == limit {
-        return Met::End;
+        return None;
     }
-    match headers::passed_head(s, at, limit, marked, room) {
-        Head::ClosingMark => Met::End,
-        Head::Refusal {
-            number: _,
-            place: _,
-        } => Met::End,
-        Head::Item(h) => {
-            let first = h.start;
-            let bound = h.bound;
-            if h.marked {
-                let below = room - 1;
-                let next = end_of_marked(s, first, bound, below);
-                return Met::Item {
-                    code: h.code,
-                    first,
-                    past: next - 2,
-                    inner: Run {
-                        at: first,
-                        limit: bound,
-                        marked: true,
-                        room: below,
-                    },
-                    rest: Run {
-                        at: next,
-                        limit,
-                        marked,
-                        room,
-                    },
-                };
-            }
-            Met::Item {
-                code: h.code,
-                first,
-                past: bound,
-                inner: inside_of(h, room),
-                rest: Run {
-                    at: bound,
-                    limit,
-                    marked,
-                    room,
-                },
-            }
-        }
+    let Head::Item(h) = headers::passed_head(s, at, limit, marked, room) else {
+        return None;
+    };
+    let first = h.start;
+    let bound = h.bound;
+    if h.marked {
+        let below = room - 1;
+        let next = end_of_marked(s, first, bound, below);
+        return Some(Met {
+            code: h.code,
+            first,
+            past: next - 2,
+            inner: Run {
+                at: first,
+                limit: bound,
+                marked: true,
+                room: below,
+            },
+            rest: Run {
+                at: next,
+                limit,
+                marked,
+                room,
+            },
+        });
     }
+    Some(Met {
+        code: h.code,
+        first,
+        past: bound,
+        inner: inside_of(h, room),
+        rest: Run {
+            at: bound,
+            limit,
+            marked,
+            room,
+        },
+    })
 }
 
 // Whether a run that is known to be whole has no item. It is told by what stands at its start, and no item's end is looked for.
@@ -165,11 +154,7 @@ pub fn is_over(s: &[u8], r: Run) -> bool
     }
     match headers::passed_head(s, at, limit, r.marked, r.room) {
         Head::Item(_) => false,
-        Head::ClosingMark => true,
-        Head::Refusal {
-            number: _,
-            place: _,
-        } => true,
+        _ => true,
     }
 }
 

@@ -3,6 +3,7 @@
 #![tactic(auto)]
 
 ghost use Rattle.std.specs.Prelude.{◌≡◌, true, cond, ◌≤◌, length};
+ghost use Rattle.octets.specs.Told.{ended};
 ghost use Rattle.octets.specs.Walk.{walk_of};
 ghost use Rattle.letters.specs.Lent.{rows_needed};
 ghost use Rattle.answers.specs.Asking.{Sized};
@@ -10,16 +11,17 @@ ghost use Rattle.answers.specs.Questions.{Leaves, Roomy};
 
 use answers::{Question, Told};
 use elements::Edition;
-use octets::Outcome;
+use octets::{Ended, Refused};
 
 mod frames; // frames.rt: the arrays of either size
 mod list; // list.rt: the reading list of a side
 mod side_sources; // side_sources.rt: where each octet of a side stands
 mod text; // text.rt: the whole reading of a side
 
-pub use list::{list_few, list_many};
-pub use side_sources::{sources_few, sources_many};
-pub use text::{text_few, text_many};
+use frames::ask_walked;
+pub use list::list_side;
+pub use side_sources::sources_of_side;
+pub use text::text_of_side;
 
 // Scratch for so many elements is soon cleared, and most letters have no more.
 const FEW: usize = 512;
@@ -28,10 +30,20 @@ const FEW: usize = 512;
 // for all.
 const MANY_HEADERS: usize = 8192;
 
+// Numbers for the matches of few elements, and of as many as a letter may have: there are never more matches than elements, and each has three.
+const FEW_MATCHES: usize = 1536;
+
+const MANY_MATCHES: usize = 12288;
+
+// Numbers for their lines, each of which has the end of its text besides.
+const FEW_LINES: usize = 2048;
+
+const MANY_LINES: usize = 16384;
+
 // Whether scratch for few elements is enough for a stream that the walk has passed with so many headers. Its elements are passed over only
 // where the headers do not tell.
 fn is_few(stream: &[u8], headers: usize) -> bool
-    requires { walk_of stream.now ≡ Outcome.Ended (length stream.now) headers }
+    requires { walk_of stream.now ≡ ended (length stream.now) headers }
     ensures { result ≡ true → rows_needed stream.now ≤ 512 }
 {
     if headers <= FEW {
@@ -44,17 +56,13 @@ fn is_few(stream: &[u8], headers: usize) -> bool
 }
 
 // Whether a stream that was walked needs few rows: what the walk refused needs none.
-pub fn needs_few(stream: &[u8], walked: Outcome) -> bool
+fn needs_few(stream: &[u8], walked: Result<Ended, Refused>) -> bool
     requires { walk_of stream.now ≡ walked }
     ensures { Sized stream.now walked (cond result 512 4096) }
 {
     match walked {
-        Outcome::Ended { at: _, count } => is_few(stream, count),
-        Outcome::Refused {
-            number: _,
-            place: _,
-            count: _,
-        } => true,
+        Ok(end) => is_few(stream, end.count),
+        Err(_) => true,
     }
 }
 
@@ -71,17 +79,7 @@ pub fn ask(
     ensures { Leaves edition question stream.now table.old flat.old out.old result table.new
         flat.new out.new }
 {
-    match octets::walk(stream) {
-        Outcome::Ended { at: _, count } => {
-            if is_few(stream, count) {
-                return frames::few(edition, stream, count as u32, question, table, flat, out);
-            }
-            frames::many(edition, stream, count as u32, question, table, flat, out)
-        }
-        Outcome::Refused {
-            number,
-            place,
-            count,
-        } => answers::tell_refused(question, number as u32, place as u32, count as u32),
-    }
+    let walked = octets::walk(stream);
+    let few = needs_few(stream, walked);
+    ask_walked(edition, stream, walked, few, question, table, flat, out)
 }

@@ -1,101 +1,62 @@
 // The reading list of a side. It is made as numbers, in scratch too, before it is known whether the lent list has room for it.
-ghost use Rattle.std.specs.Prelude.{◌/◌, length};
+ghost use Rattle.std.specs.Prelude.{◌≤◌, ◌/◌};
 ghost use Rattle.answers.specs.Answers.{ListOutcome};
-ghost use Rattle.answers.specs.Asking.{Sized, ListsFlat};
+ghost use Rattle.answers.specs.Asking.{Sized};
 
-use super::{FEW, frames};
+use super::frames::ask_walked;
+use super::{FEW, FEW_MATCHES, MANY_MATCHES, needs_few};
 use answers::{Listed, Question};
 use elements::Edition;
-use octets::Outcome;
+use octets::{Ended, Refused};
 use reading::{Match, Side};
 
-// The list of a stream that was walked and has few elements. There are never more matches than elements, so numbers for as many records are
-// enough, and these are soon cleared.
-pub fn list_few(
+// The list of a side of a stream. Numbers for few elements are soon cleared, so a stream that has few gets those.
+pub fn list_side(
     edition: Edition,
     stream: &[u8],
-    walked: Outcome,
     side: Side,
     table: &mut [u32],
     list: &mut [Match],
 ) -> Listed
-    requires { Sized stream.now walked 512 }
     ensures { ListOutcome edition side stream.now table.old list.old result table.new list.new }
 {
-    let mut flat = [0u32; 1536];
-    let answer = list_flat(edition, stream, walked, side, list.len(), table, &mut flat);
-    let count = answer.matches as usize;
-    reading::fill(&flat, count, list);
-    answer
-}
-
-// The list of one that has many.
-pub fn list_many(
-    edition: Edition,
-    stream: &[u8],
-    walked: Outcome,
-    side: Side,
-    table: &mut [u32],
-    list: &mut [Match],
-) -> Listed
-    requires { Sized stream.now walked 4096 }
-    ensures { ListOutcome edition side stream.now table.old list.old result table.new list.new }
-{
-    let mut flat = [0u32; 12288];
-    let answer = list_flat(edition, stream, walked, side, list.len(), table, &mut flat);
-    let count = answer.matches as usize;
-    reading::fill(&flat, count, list);
-    answer
-}
-
-// The reading list of a side of a stream that was walked, as numbers, for a list with room for so many records. The numbers have room for a
-// record of each element, and so tell how much scratch is enough.
-pub fn list_flat(
-    edition: Edition,
-    stream: &[u8],
-    walked: Outcome,
-    side: Side,
-    room: usize,
-    table: &mut [u32],
-    flat: &mut [u32],
-) -> Listed
-    requires { Sized stream.now walked (length flat.old / 3) }
-    ensures { ListsFlat edition side stream.now table.old room result table.new flat.new }
-{
-    let mut none = [0u8; 0];
-    match walked {
-        Outcome::Ended { at: _, count } => {
-            let question = Question::List { side, room };
-            if flat.len() / 3 <= FEW {
-                return answers::listed_of(frames::few(
-                    edition,
-                    stream,
-                    count as u32,
-                    question,
-                    table,
-                    flat,
-                    &mut none,
-                ));
-            }
-            answers::listed_of(frames::many(
-                edition,
-                stream,
-                count as u32,
-                question,
-                table,
-                flat,
-                &mut none,
-            ))
-        }
-        Outcome::Refused {
-            number,
-            place,
-            count: _,
-        } => Listed {
-            number: number as u32,
-            place: place as u32,
-            elements: 0,
-            matches: 0,
-        },
+    let walked = octets::walk(stream);
+    if needs_few(stream, walked) {
+        return list_by::<FEW_MATCHES>(edition, stream, walked, side, table, list);
     }
+    list_by::<MANY_MATCHES>(edition, stream, walked, side, table, list)
+}
+
+// The same with so many numbers, which have room for a record of each element and so tell which frame is enough. Their array must not become part of
+// the caller's stack, or every stream would take that of the longer one.
+#[inline(never)]
+fn list_by<const NUMBERS: usize>(
+    edition: Edition,
+    stream: &[u8],
+    walked: Result<Ended, Refused>,
+    side: Side,
+    table: &mut [u32],
+    list: &mut [Match],
+) -> Listed
+    requires sized { Sized stream.now walked (NUMBERS / 3) }
+    requires size { NUMBERS ≤ 65536 }
+    ensures { ListOutcome edition side stream.now table.old list.old result table.new list.new }
+{
+    let mut flat = [0u32; NUMBERS];
+    let few = NUMBERS / 3 <= FEW;
+    let room = list.len();
+    let question = Question::List { side, room };
+    let told = ask_walked(
+        edition,
+        stream,
+        walked,
+        few,
+        question,
+        table,
+        &mut flat,
+        &mut [],
+    );
+    let answer = Listed::from(told);
+    reading::fill(&flat, answer.matches as usize, list);
+    answer
 }

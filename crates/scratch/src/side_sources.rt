@@ -1,90 +1,52 @@
 // The sources of a side. Its matches are made as numbers, in scratch too, before it is known whether the lent list has room for their records.
-ghost use Rattle.std.specs.Prelude.{◌/◌, length};
+ghost use Rattle.std.specs.Prelude.{◌≤◌, ◌/◌};
 ghost use Rattle.answers.specs.Asking.{Sized};
 ghost use Rattle.answers.specs.Sources.{SourcesOutcome};
 
-use super::{FEW, frames};
+use super::frames::ask_walked;
+use super::{FEW, FEW_MATCHES, MANY_MATCHES, needs_few};
 use answers::{Question, Sourced};
 use elements::Edition;
-use octets::Outcome;
+use octets::{Ended, Refused};
 use reading::Side;
 
-// The sources of a stream that was walked and has few elements. There are never more matches than elements.
-pub fn sources_few(
-    edition: Edition,
-    stream: &[u8],
-    walked: Outcome,
-    side: Side,
-    list: &mut [u32],
-) -> Sourced
-    requires { Sized stream.now walked 512 }
+// The sources of a side of a stream. Numbers for few elements are soon cleared, so a stream that has few gets those.
+pub fn sources_of_side(edition: Edition, stream: &[u8], side: Side, list: &mut [u32]) -> Sourced
     ensures { SourcesOutcome edition side stream.now list.old result list.new }
 {
-    let mut numbers = [0u32; 1536];
-    sources_by(edition, stream, walked, side, list, &mut numbers)
-}
-
-// The sources of one that has many.
-pub fn sources_many(
-    edition: Edition,
-    stream: &[u8],
-    walked: Outcome,
-    side: Side,
-    list: &mut [u32],
-) -> Sourced
-    requires { Sized stream.now walked 4096 }
-    ensures { SourcesOutcome edition side stream.now list.old result list.new }
-{
-    let mut numbers = [0u32; 12288];
-    sources_by(edition, stream, walked, side, list, &mut numbers)
-}
-
-// The sources of a side of a stream that was walked. The numbers have room for a match of each element, and so tell how much scratch is enough.
-fn sources_by(
-    edition: Edition,
-    stream: &[u8],
-    walked: Outcome,
-    side: Side,
-    list: &mut [u32],
-    numbers: &mut [u32],
-) -> Sourced
-    requires { Sized stream.now walked (length numbers.old / 3) }
-    ensures { SourcesOutcome edition side stream.now list.old result list.new }
-{
-    let mut none = [0u8; 0];
-    match walked {
-        Outcome::Ended { at: _, count } => {
-            let question = Question::Sources { side };
-            if numbers.len() / 3 <= FEW {
-                return answers::sourced_of(frames::few(
-                    edition,
-                    stream,
-                    count as u32,
-                    question,
-                    list,
-                    numbers,
-                    &mut none,
-                ));
-            }
-            answers::sourced_of(frames::many(
-                edition,
-                stream,
-                count as u32,
-                question,
-                list,
-                numbers,
-                &mut none,
-            ))
-        }
-        Outcome::Refused {
-            number,
-            place,
-            count: _,
-        } => Sourced {
-            number: number as u32,
-            place: place as u32,
-            lines: 0,
-            sources: 0,
-        },
+    let walked = octets::walk(stream);
+    if needs_few(stream, walked) {
+        return sources_by::<FEW_MATCHES>(edition, stream, walked, side, list);
     }
+    sources_by::<MANY_MATCHES>(edition, stream, walked, side, list)
+}
+
+// The same with so many numbers, which have room for a match of each element and so tell which frame is enough. Their array must not become part of
+// the caller's stack, or every stream would take that of the longer one.
+#[inline(never)]
+fn sources_by<const NUMBERS: usize>(
+    edition: Edition,
+    stream: &[u8],
+    walked: Result<Ended, Refused>,
+    side: Side,
+    list: &mut [u32],
+) -> Sourced
+    requires sized { Sized stream.now walked (NUMBERS / 3) }
+    requires size { NUMBERS ≤ 65536 }
+    ensures { SourcesOutcome edition side stream.now list.old result list.new }
+{
+    let mut numbers = [0u32; NUMBERS];
+    let few = NUMBERS / 3 <= FEW;
+    let question = Question::Sources { side };
+    let told = ask_walked(
+        edition,
+        stream,
+        walked,
+        few,
+        question,
+        list,
+        &mut numbers,
+        &mut [],
+    );
+    Sourced::from(told)
 }

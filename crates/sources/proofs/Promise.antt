@@ -11,8 +11,9 @@ use borrow.Author.Tests.{ltb-true, ltb-false}
 use borrow.Table.Steps.{cases}
 use lib.Dec.{ltb, leb}
 use lib.ListN.{length, get_or, get_elem?}
-use Rattle.octets.specs.declared.Outcome.TheVariants.{Ended, Refused}
+use Rattle.octets.specs.Told.{ended, refused}
 use Rattle.octets.specs.Walk.{Items, End, ends, stops, count, outcome_of, answer, stream_limit, walk_of, deepest}
+use Rattle.octets.proofs.Told.{same-ended}
 use Rattle.octets.proofs.RulesHold.{derives}
 use Rattle.tree.specs.Tree.{tree_of}
 use Rattle.tree.specs.Accepts.{Whole}
@@ -47,18 +48,18 @@ use Rattle.sources.proofs.Units.{Own, owns, element-read, elements-rows, row-asc
 use Rattle.sources.proofs.Among.{flat, each-ascends, each-few, lies, one-ascends-in, in-one-in-all, before-later}
 
 -- the header count of a letter is how many items it has
-ended-count : (n at headers : ℕ) (e : End) → outcome_of n e ≡ Ended at headers → n ≡ headers
-ended-count n at headers (ends to) p = cc
-ended-count n at headers (stops number place) p = let z : ◌≡◌ {A = ℕ} 0 1 = cc in absurd (omega arith)
+ended-count : (n at headers : ℕ) (e : End) → outcome_of n e ≡ ended at headers → n ≡ headers
+ended-count n at headers (ends to) p = (same-ended p).1
+ended-count n at headers (stops number place) p = absurd cc
 
-header-count : (s : List ℕ) (at headers : ℕ) → walk_of s ≡ Ended at headers → count (items_of_stream s) ≡ headers
+header-count : (s : List ℕ) (at headers : ℕ) → walk_of s ≡ ended at headers → count (items_of_stream s) ≡ headers
 unfolding walk_of
 header-count s at headers w =
     cases (leb (length s) stream_limit)
     (λ t.
-    let p : answer (walk_in s (whole_stream s)) ≡ Ended at headers = rw t at w in
+    let p : answer (walk_in s (whole_stream s)) ≡ ended at headers = rw t at w in
     ended-count (count (items_of_stream s)) at headers (walk_in s (whole_stream s)).how p)
-    (λ t. let p : Refused 1 0 0 ≡ Ended at headers = rw t at w in let z : ◌≡◌ {A = ℕ} 0 1 = cc in absurd (omega arith))
+    (λ t. let p : refused 1 0 0 ≡ ended at headers = rw t at w in absurd cc)
 
 owns-all : {s : List ℕ} → Fine s (whole_stream s) → (e : End) → (walk_in s (whole_stream s)).how ≡ e → Whole e → Own (items_of_stream s)
 owns-all {s} fine (ends next) e w = owns (derives deepest s 0 (length s) false fine.order) next e

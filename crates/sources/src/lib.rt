@@ -9,7 +9,7 @@ ghost use Rattle.runs.specs.Runs.{items_of, Fine};
 ghost use Rattle.sources.specs.Places.{places_of};
 ghost use Rattle.sources.specs.Sources.{source_width, place_numbers};
 
-use runs::{Met, Run};
+use runs::Run;
 
 mod side; // side.rt: the sources of all lines of a side
 mod unit; // unit.rt: the places of one element
@@ -19,32 +19,23 @@ pub use side::{count_sources, put_sources};
 // How many numbers a record has.
 pub const SOURCE_WIDTH: usize = 3;
 
-// How many pieces of a run have octets.
+// How many pieces of a run have octets. To count is no twin of to put, here and in unit.rt: it needs no list, which is made only by what is
+// counted.
 fn count_places(s: &[u8], r: Run) -> usize
     requires { Fine s.now r }
     ensures { result ≡ length (places_of (items_of s.now r)) }
 {
     let mut cur = r;
     let mut n: usize = 0;
-    loop {
-        match runs::meet(s, cur) {
-            Met::End => return n,
-            Met::Item {
-                code,
-                first,
-                past,
-                inner,
-                rest,
-            } => {
-                cur = rest;
-                if code / 32 % 2 == 1 {
-                    n = n + count_places(s, inner);
-                } else if first < past {
-                    n = n + 1;
-                }
-            }
+    while let Some(item) = runs::meet(s, cur) {
+        cur = item.rest;
+        if item.code / 32 % 2 == 1 {
+            n += count_places(s, item.inner);
+        } else if item.first < item.past {
+            n += 1;
         }
     }
+    n
 }
 
 // Puts one record.
@@ -52,9 +43,7 @@ fn put_source(list: &mut [u32], at: usize, line: u32, first: u32, past: u32)
     requires { at + source_width ≤ length list.old }
     ensures { list.new ≡ sets list.old at (line ∷ first ∷ past ∷ []) }
 {
-    list[at] = line;
-    list[at + 1] = first;
-    list[at + 2] = past;
+    list[at..at + SOURCE_WIDTH].copy_from_slice(&[line, first, past]);
 }
 
 // Puts a record for each piece of a run that has octets to the start of the list, and says how many numbers that are. What is past them stays.
@@ -66,24 +55,14 @@ fn put_places(s: &[u8], r: Run, line: u32, list: &mut [u32]) -> usize
 {
     let mut cur = r;
     let mut done: usize = 0;
-    loop {
-        match runs::meet(s, cur) {
-            Met::End => return done,
-            Met::Item {
-                code,
-                first,
-                past,
-                inner,
-                rest,
-            } => {
-                cur = rest;
-                if code / 32 % 2 == 1 {
-                    done = done + put_places(s, inner, line, &mut list[done..]);
-                } else if first < past {
-                    put_source(list, done, line, first as u32, past as u32);
-                    done = done + SOURCE_WIDTH;
-                }
-            }
+    while let Some(item) = runs::meet(s, cur) {
+        cur = item.rest;
+        if item.code / 32 % 2 == 1 {
+            done += put_places(s, item.inner, line, &mut list[done..]);
+        } else if item.first < item.past {
+            put_source(list, done, line, item.first as u32, item.past as u32);
+            done += SOURCE_WIDTH;
         }
     }
+    done
 }

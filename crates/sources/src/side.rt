@@ -11,12 +11,6 @@ ghost use Rattle.sources.specs.Steps.{LinesListed};
 use super::unit::{count_unit, put_unit};
 use elements::Edition;
 
-fn wide(x: u32) -> usize
-    ensures { result ≡ x }
-{
-    x as usize
-}
-
 // How many sources the lines of the first matches have in all.
 pub fn count_sources(
     edition: Edition,
@@ -30,12 +24,10 @@ pub fn count_sources(
     requires lines_listed { LinesListed edition s.now numbers.now lines }
     ensures { result ≡ length (sources_from (places_in edition s.now) 0 (records_from numbers.now 0 lines)) }
 {
-    let mut k: usize = 0;
     let mut total: usize = 0;
-    while k < lines {
-        let unit = wide(numbers[3 * k + 2]);
-        total = total + count_unit(edition, s, rows, count, unit);
-        k += 1;
+    for k in 0..lines {
+        let unit = numbers[3 * k + 2] as usize;
+        total += count_unit(edition, s, rows, count, unit);
     }
     total
 }
@@ -56,11 +48,9 @@ pub fn put_sources(
     ensures { let all = source_numbers (sources_from (places_in edition s.now) 0 (records_from numbers.now 0 lines)) in
         list.new ≡ all ++ drop (length all) list.old }
 {
-    let mut k: usize = 0;
     let mut done: usize = 0;
-    while k < lines {
-        let unit = wide(numbers[3 * k + 2]);
-        done = done + put_unit(edition, s, rows, count, unit, k as u32, &mut list[done..]);
-        k += 1;
+    for k in 0..lines {
+        let unit = numbers[3 * k + 2] as usize;
+        done += put_unit(edition, s, rows, count, unit, k as u32, &mut list[done..]);
     }
 }

@@ -22,11 +22,7 @@ fn put_line(
     ensures { lines.new ≡ sets lines.old (line_width * k) (element ∷ portion ∷ unit ∷ first ∷ past ∷ []) }
 {
     let at = LINE_WIDTH * k;
-    lines[at] = element;
-    lines[at + 1] = portion;
-    lines[at + 2] = unit;
-    lines[at + 3] = first;
-    lines[at + 4] = past;
+    lines[at..at + LINE_WIDTH].copy_from_slice(&[element, portion, unit, first, past]);
 }
 
 // Fills the lent lines: three numbers a match, and after all of these where each text ends. A text begins where the one before it ends, and the
@@ -35,9 +31,8 @@ pub fn fill_lines(numbers: &[u32], count: usize, lines: &mut [u32])
     requires { (4 * count ≤ length numbers.now) × (line_width * count ≤ length lines.old) }
     ensures { lines.new ≡ sets lines.old 0 (lines_left numbers.now count 0 count 0) }
 {
-    let mut k: usize = 0;
     let mut first: u32 = 0;
-    while k < count {
+    for k in 0..count {
         let past = numbers[3 * count + k];
         put_line(
             lines,
@@ -49,6 +44,5 @@ pub fn fill_lines(numbers: &[u32], count: usize, lines: &mut [u32])
             past,
         );
         first = past;
-        k += 1;
     }
 }

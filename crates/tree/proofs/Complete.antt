@@ -9,9 +9,8 @@ use lib.Seq.{slice}
 use borrow.Author.Tests.{le-leb, lt-ltb, le-ltb, eq-eqb, ne_eqb, eqb-true}
 use Rattle.headers.specs.declared.Header.{Header}
 use Rattle.headers.specs.declared.Head.TheVariants.{Item, ClosingMark}
-use Rattle.headers.specs.declared.Field.TheVariants.{Read}
 use Rattle.headers.specs.Head.{number_bits, constructed, permits, form_allowed, code_of, type_field, type_number, misfits, big_endian, octet_at, definite_at}
-use Rattle.headers.specs.Head.{indefinite_at, long_at, by_first, length_at, field_at, closing_at, item_at, head_at}
+use Rattle.headers.specs.Head.{read_field, indefinite_at, long_at, by_first, length_at, field_at, closing_at, item_at, head_at}
 use Rattle.headers.proofs.Fields.{above-thirty}
 use Rattle.octets.specs.Walk.{Items, no_items, item, End, ends, past_of}
 use Rattle.octets.specs.Rules.{Runs, at_limit, closes, primitive, passes}
@@ -34,7 +33,7 @@ fits code n c =
 
 -- a type field that stands at a place is read there
 field_is : {type : List ℕ} {form : Bool} (s : List ℕ) (at limit : ℕ) → TypeField type form → Here s at type → at + length type ≤ limit
-    → (octet_at s at ≡ 0 → ⊥) × (field_at s (octet_at s at) at limit ≡ Read (code_of type) (at + length type))
+    → (octet_at s at ≡ 0 → ⊥) × (field_at s (octet_at s at) at limit ≡ read_field (code_of type) (at + length type))
 field_is s at limit (one_octet {octet} low tabled q) here l =
     let e = octet-at s at octet [] here in
     let same : octet + 256 * 0 ≡ octet = omega arith in

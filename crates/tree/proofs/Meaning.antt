@@ -8,9 +8,10 @@ use native.Mathlib.Omega.{arith}
 use lib.Dec.{leb}
 use lib.ListN.{length}
 use borrow.Author.Tests.{le-leb, leb-true}
-use Rattle.octets.specs.declared.Outcome.TheVariants.{Ended, Refused}
+use Rattle.octets.specs.Told.{ended as walk_ended, refused}
 use Rattle.octets.specs.Walk.{no_items, count, stream_limit, deepest, End, ends, stops, Walked, run, outcome_of, walk_of}
 use Rattle.octets.specs.Rules.{Runs, at_limit}
+use Rattle.octets.proofs.Told.{same-ended}
 use Rattle.octets.proofs.RulesHold.{derives, derived}
 use Rattle.tree.specs.Tree.{Tree, plain, tree_of, Codes}
 use Rattle.tree.specs.Accepts.{Accepts, Whole}
@@ -23,14 +24,14 @@ abbrev top : List ℕ → Walked
 top s = run deepest s 0 (length s) false
 
 -- an outcome that ended, of a stream within the limit
-ended-how : (n : ℕ) (e : End) (b : Bool) (at k : ℕ) → cond b (outcome_of n e) (Refused 1 0 0) ≡ Ended at k → (b ≡ true) × (e ≡ ends at)
-ended-how n (ends to) true at k p = let a : to ≡ at = cc in (refl, ap ends a)
-ended-how n (ends to) false at k p = let z : ◌≡◌ {A = ℕ} 0 1 = cc in absurd (omega arith)
-ended-how n (stops number place) true at k p = let z : ◌≡◌ {A = ℕ} 0 1 = cc in absurd (omega arith)
-ended-how n (stops number place) false at k p = let z : ◌≡◌ {A = ℕ} 0 1 = cc in absurd (omega arith)
+ended-how : (n : ℕ) (e : End) (b : Bool) (at k : ℕ) → cond b (outcome_of n e) (refused 1 0 0) ≡ walk_ended at k → (b ≡ true) × (e ≡ ends at)
+ended-how n (ends to) true at k p = (refl, ap ends (same-ended p).0)
+ended-how n (ends to) false at k p = absurd cc
+ended-how n (stops number place) true at k p = absurd cc
+ended-how n (stops number place) false at k p = absurd cc
 
 -- a walk that ended is of a stream within the limit, and it is whole
-pub whole_of : (s : List ℕ) (at k : ℕ) → walk_of s ≡ Ended at k → (length s ≤ stream_limit) × Whole (top s).how
+pub whole_of : (s : List ℕ) (at k : ℕ) → walk_of s ≡ walk_ended at k → (length s ≤ stream_limit) × Whole (top s).how
 unfolding walk_of
 whole_of s at k e =
     let (b, h) = ended-how (count (top s).items) (top s).how (leb (length s) stream_limit) at k e in
@@ -70,9 +71,8 @@ pub unique : (s : List ℕ) (t u : Tree) → Codes deepest t s → Codes deepest
 unique s t u c d = sym (coded-walk s t c).1 ∙ (coded-walk s u d).1
 
 -- A stream within the limit that is refused, which is by 2 to 8, codes no tree.
-pub refused-codes-nothing : (s : List ℕ) (number place k : ℕ) → walk_of s ≡ Refused number place k → length s ≤ stream_limit
+pub refused-codes-nothing : (s : List ℕ) (number place k : ℕ) → walk_of s ≡ refused number place k → length s ≤ stream_limit
     → (t : Tree) → Codes deepest t s → ⊥
 refused-codes-nothing s number place k e l t c =
     let a = (accepts s t c l).ended in
-    let z : ◌≡◌ {A = ℕ} 0 1 = cc in
-    omega arith
+    absurd cc

@@ -23,7 +23,11 @@ names-filed c =
     c.requires.both_filed.identifiers
 
 pub check_judged-r-requires : goal.check_judged-r-requires
-check_judged-r-requires c = record { stream_value = c.requires.s_value; letter_rows = c.requires.letter_rows; filed = names-filed (goal.at.check_judged-r-requires c).After-identifiers-names }
+check_judged-r-requires c = record {
+  stream_value = c.requires.s_value;
+  letter_rows = c.requires.letter_rows;
+  filed = names-filed (goal.at.check_judged-r-requires c).After-identifiers-names;
+}
 
 pub list_judged-r-requires : goal.list_judged-r-requires
 list_judged-r-requires c =
@@ -35,11 +39,20 @@ pub children_judged-r-requires : goal.children_judged-r-requires
 children_judged-r-requires c =
     let room = subst (λ (q : Question). Roomy q c.args.s.now (length c.args.flat.now))
     c.in-Children.is c.requires.roomy in
-    record { accepts = accepts-walked c.requires.s_value; letter_rows = c.requires.letter_rows; filed = names-filed (goal.at.children_judged-r-requires c).After-identifiers-names; room_in_bounds = room }
+    record {
+      accepts = accepts-walked c.requires.s_value;
+      letter_rows = c.requires.letter_rows;
+      filed = names-filed (goal.at.children_judged-r-requires c).After-identifiers-names;
+      room_in_bounds = room;
+    }
 
 pub order_judged-r-requires : goal.order_judged-r-requires
 order_judged-r-requires c =
-    record { by_index = (c.args.headers, c.requires.s_value); letter_rows = c.requires.letter_rows; filed = names-filed (goal.at.order_judged-r-requires c).After-identifiers-names }
+    record {
+      by_index = (c.args.headers, c.requires.s_value);
+      letter_rows = c.requires.letter_rows;
+      filed = names-filed (goal.at.order_judged-r-requires c).After-identifiers-names;
+    }
 
 pub text_judged-r-requires : goal.text_judged-r-requires
 text_judged-r-requires c =

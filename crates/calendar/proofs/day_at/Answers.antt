@@ -1,6 +1,5 @@
 -- `calendar::day_at` meets its contract: the parts of a value that is spelt as a date, and the numbers in it are small.
 use native.Mathlib.Omega.{arith}
-use Rattle.calendar.specs.Calendar.{day_at}
 use Rattle.calendar.proofs.Spelling.{spelt-parts, two-small}
 use Rattle.calendar.proofs.day_at.Goals as goal
 
@@ -39,12 +38,3 @@ two_number-requires-4 c =
     let v = c.args.v.now in
     let p = spelt-parts v c.requires in
     (omega arith, p.day)
-
-pub returns : goal.returns
-unfolding day_at
-returns c = rw (
-  c.two_number-4.ensures,
-  c.two_number-3.ensures,
-  c.two_number-2.ensures,
-  c.two_number.ensures,
-)

@@ -4,6 +4,7 @@ use native.Mathlib.Omega.{arith}
 use mathlib.Core.Path.{ap}
 use lib.ListN.{length}
 use borrow.Author.Tests.{lt-leb}
+use Rattle.characters.specs.Sets.{number_of}
 use Rattle.characters.specs.Signs.{signs, utf8_of}
 use Rattle.characters.proofs.Next.{text-end, numbers-end}
 use Rattle.characters.proofs.Going.{goes, size-left}
@@ -17,9 +18,9 @@ returns-then-room-here c =
     let xs = a.octets.now in
     let within : l.at < length xs = omega arith in
     let step = c.step_at-step in
-    let g = goes a.set xs l.at within step.result step.ensures in
-    let total = length (utf8_of (signs a.set xs)) in
-    let short : a.room < total = omega (arith, l.invariant.3, size-left a.set xs l.at step.result g, c.if-room-here.true) in
+    let g = goes (number_of a.set) xs l.at within step.result step.ensures in
+    let total = length (utf8_of (signs (number_of a.set) xs)) in
+    let short : a.room < total = omega (arith, l.invariant.3, size-left (number_of a.set) xs l.at step.result g, c.if-room-here.true) in
     rw (lt-leb total a.room short)
 
 pub overflow_add-numbers : goal.overflow_add-numbers
@@ -29,7 +30,7 @@ overflow_add-numbers c =
     let xs = a.octets.now in
     let within : l.at < length xs = omega arith in
     let step = c.step_at-step in
-    omega (arith, (goes a.set xs l.at within step.result step.ensures).few)
+    omega (arith, (goes (number_of a.set) xs l.at within step.result step.ensures).few)
 
 pub overflow_add-at : goal.overflow_add-at
 overflow_add-at c =
@@ -38,7 +39,7 @@ overflow_add-at c =
     let xs = a.octets.now in
     let within : l.at < length xs = omega arith in
     let step = c.step_at-step in
-    omega (arith, (goes a.set xs l.at within step.result step.ensures).within)
+    omega (arith, (goes (number_of a.set) xs l.at within step.result step.ensures).within)
 
 pub loop-at-smaller : goal.loop-at-smaller
 loop-at-smaller c =
@@ -47,7 +48,7 @@ loop-at-smaller c =
     let xs = a.octets.now in
     let within : l.at < length xs = omega arith in
     let step = c.step_at-step in
-    let g = goes a.set xs l.at within step.result step.ensures in
+    let g = goes (number_of a.set) xs l.at within step.result step.ensures in
     omega (arith, g.forward, g.within)
 
 pub loop-at-preserved : goal.loop-at-preserved
@@ -57,11 +58,11 @@ loop-at-preserved c =
     let xs = a.octets.now in
     let within : l.at < length xs = omega arith in
     let step = c.step_at-step in
-    let g = goes a.set xs l.at within step.result step.ensures in (
+    let g = goes (number_of a.set) xs l.at within step.result step.ensures in (
       omega (arith, g.within),
       omega (arith, c.if-room-here.false),
       omega (arith, g.few),
-      omega (arith, l.invariant.3, size-left a.set xs l.at step.result g),
+      omega (arith, l.invariant.3, size-left (number_of a.set) xs l.at step.result g),
       omega (arith, l.invariant.4, g.counted),
     )
 
@@ -71,7 +72,7 @@ returns c =
     let a = c.args in
     let xs = a.octets.now in
     let ended : length xs ≤ l.at = c.loop-at-test.false in
-    measured-fits (signs a.set xs) a.room l.here l.numbers
-    (omega (arith, l.invariant.3, ap length (text-end a.set xs l.at ended)))
-    (omega (arith, l.invariant.4, numbers-end a.set xs l.at ended))
+    measured-fits (signs (number_of a.set) xs) a.room l.here l.numbers
+    (omega (arith, l.invariant.3, ap length (text-end (number_of a.set) xs l.at ended)))
+    (omega (arith, l.invariant.4, numbers-end (number_of a.set) xs l.at ended))
     l.invariant.1

@@ -1,39 +1,35 @@
 -- `contents::fills` meets its contract: it answers by the count of the opening, as `in_order` does.
-use mathlib.Core.Path.{◌∙◌}
+use native.Mathlib.Omega.{arith}
 use borrow.Author.Tests.{eq-eqb, ne_eqb}
 use Rattle.contents.proofs.Orders.{filled_more, filled-in_order}
 use Rattle.contents.proofs.fills.Goals as goal
 
-pub returns-then-first-one : goal.returns-then-first-one
-returns-then-first-one c s r k =
+pub returns-then-not-one : goal.returns-then-not-one
+returns-then-not-one c s r k =
     let a = c.args in
-    rw (← filled-in_order s r a.o a.one a.two k, c.if-count-eq2.true, eq-eqb _ _ c.if-first-one.true)
+    rw (← filled-in_order s r a.o a.one a.two k, c.in-0.is, c.if-not-one.true)
 
-pub returns-then-count-eq2 : goal.returns-then-count-eq2
-returns-then-count-eq2 c s r k =
+pub returns-else-not-one : goal.returns-else-not-one
+returns-else-not-one c s r k =
     let a = c.args in
-    rw (← filled-in_order s r a.o a.one a.two k, c.if-count-eq2.true, ne_eqb _ _ c.if-first-one.false)
+    rw (← filled-in_order s r a.o a.one a.two k, c.in-0.is, c.if-not-one.false)
 
-pub fills_either-requires : goal.fills_either-requires
-fills_either-requires c = tt
-
-pub returns-then-count-eq1 : goal.returns-then-count-eq1
-returns-then-count-eq1 c s r k =
+pub returns-in-1 : goal.returns-in-1
+returns-in-1 c s r k =
     let a = c.args in
-    rw (← filled-in_order s r a.o a.one a.two k, c.if-count-eq1.true) c.fills_either.ensures
+    rw (← filled-in_order s r a.o a.one a.two k, c.in-1.is) c.fills_either.ensures
 
-pub returns-then-one : goal.returns-then-one
-returns-then-one c s r k =
+pub returns-then-o-one : goal.returns-then-o-one
+returns-then-o-one c s r k =
     let a = c.args in
-    rw (← filled-in_order s r a.o a.one a.two k, c.if-count-eq0.true, c.if-one.true)
+    rw (← filled-in_order s r a.o a.one a.two k, c.in-2.is, eq-eqb _ _ c.if-o-one.true)
 
-pub returns-then-count-eq0 : goal.returns-then-count-eq0
-returns-then-count-eq0 c s r k =
+pub returns-else-o-one : goal.returns-else-o-one
+returns-else-o-one c s r k =
     let a = c.args in
-    rw (← filled-in_order s r a.o a.one a.two k, c.if-count-eq0.true, c.if-one.false)
+    rw (← filled-in_order s r a.o a.one a.two k, c.in-2.is, ne_eqb _ _ c.if-o-one.false)
 
-pub returns : goal.returns
-returns c s r k =
+pub returns-in_default : goal.returns-in_default
+returns-in_default c s r k =
     let a = c.args in
-    filled_more a.o.count _ _ a.one a.two c.if-count-eq2.false c.if-count-eq1.false c.if-count-eq0.false
-    ∙ filled-in_order s r a.o a.one a.two k
+    rw (← filled-in_order s r a.o a.one a.two k) (filled_more a.o.count _ _ a.one a.two (omega arith))

@@ -5,8 +5,8 @@ use Rattle.runs.specs.Runs.{Fine}
 use Rattle.contents.proofs.Firsts.{Alike}
 use Rattle.contents.proofs.first_with.Given as goal
 
-abbrev pub invariant-loop-code : goal.invariant-loop-code
-invariant-loop-code l = Fine l.s l.cur × Alike l.s l.sought l.initial.cur l.cur
+abbrev pub invariant-loop-item : goal.invariant-loop-item
+invariant-loop-item l = Fine l.s l.cur × Alike l.s l.sought l.initial.cur l.cur
 
-abbrev pub decreases-loop-code : goal.decreases-loop-code
-decreases-loop-code l = l.cur.limit - l.cur.at
+abbrev pub decreases-loop-item : goal.decreases-loop-item
+decreases-loop-item l = l.cur.limit - l.cur.at

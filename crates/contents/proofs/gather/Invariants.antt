@@ -4,8 +4,8 @@ use Prim.Native.Nat.{◌-◌}
 use Rattle.contents.proofs.Gathering.{Gathering}
 use Rattle.contents.proofs.gather.Given as goal
 
-abbrev pub invariant-loop-code : goal.invariant-loop-code
-invariant-loop-code l = Gathering l.s l.sought l.initial.cur l.cur l.identifier l.logical l.portions l.barred
+abbrev pub invariant-loop-item : goal.invariant-loop-item
+invariant-loop-item l = Gathering l.s l.sought l.initial.cur l.cur l.identifier l.logical l.portions l.barred
 
-abbrev pub decreases-loop-code : goal.decreases-loop-code
-decreases-loop-code l = l.cur.limit - l.cur.at
+abbrev pub decreases-loop-item : goal.decreases-loop-item
+decreases-loop-item l = l.cur.limit - l.cur.at

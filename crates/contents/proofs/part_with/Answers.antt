@@ -3,28 +3,12 @@ use native.Mathlib.Omega.{arith}
 use Rattle.contents.proofs.Parts.{one_holds, two-holds, neither-holds}
 use Rattle.contents.proofs.part_with.Goals as goal
 
-pub returns-then-count-eq0 : goal.returns-then-count-eq0
-returns-then-count-eq0 c s r =
-    let a = c.args in
-    neither-holds a.octet a.o s r (λ l. absurd (omega arith)) (λ l. absurd (omega arith))
+pub returns-then-o-octet : goal.returns-then-o-octet
+returns-then-o-octet c s r k l = one_holds c.args.octet c.args.o s r c.if-o-gt0.true c.if-o-octet.true k
 
-pub returns-then-one-octet : goal.returns-then-one-octet
-returns-then-one-octet c s r k l =
-    let a = c.args in
-    one_holds a.octet a.o s r c.if-count-eq0.false c.if-one-octet.true k
-
-pub returns-then-count-eq1 : goal.returns-then-count-eq1
-returns-then-count-eq1 c s r =
-    let a = c.args in
-    neither-holds a.octet a.o s r (λ l. c.if-one-octet.false) (λ l. absurd (omega arith))
-
-pub returns-then-two-octet : goal.returns-then-two-octet
-returns-then-two-octet c s r k l =
-    let a = c.args in
-    two-holds a.octet a.o s r c.if-count-eq0.false c.if-count-eq1.false
-    c.if-one-octet.false c.if-two-octet.true k
+pub returns-then-o-octet-2 : goal.returns-then-o-octet-2
+returns-then-o-octet-2 c s r k l =
+    two-holds c.args.octet c.args.o s r c.if-o-gt1.true (λ e. omega arith) c.if-o-octet-2.true k
 
 pub returns : goal.returns
-returns c s r =
-    let a = c.args in
-    neither-holds a.octet a.o s r (λ l. c.if-one-octet.false) (λ l. c.if-two-octet.false)
+returns c s r = neither-holds c.args.octet c.args.o s r (λ some e. omega arith) (λ more e. omega arith)

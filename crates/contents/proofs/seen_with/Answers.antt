@@ -3,15 +3,9 @@ use borrow.Author.Tests.{eq-eqb, ne_eqb}
 use Rattle.contents.specs.Gather.{seen_with}
 use Rattle.contents.proofs.seen_with.Goals as goal
 
-pub first_of-requires : goal.first_of-requires
-first_of-requires c = tt
-
 pub returns-then-p-octet : goal.returns-then-p-octet
 unfolding seen_with
 returns-then-p-octet c = rw (eq-eqb _ _ c.if-p-octet.true, c.first_of.ensures)
-
-pub copied-requires : goal.copied-requires
-copied-requires c = tt
 
 pub returns : goal.returns
 unfolding seen_with

@@ -8,8 +8,8 @@ use Rattle.dates.proofs.+found_from.Given as goal
 abbrev pub decreases-found_from : goal.decreases-found_from
 decreases-found_from l = l.level
 
-abbrev pub invariant-loop-had : goal.invariant-loop-had
-invariant-loop-had l = Fine l.s l.cur × SoFar l.s l.level l.initial.cur l.cur l.had
+abbrev pub invariant-loop-item : goal.invariant-loop-item
+invariant-loop-item l = Fine l.s l.cur × SoFar l.s l.level l.initial.cur l.cur l.had
 
-abbrev pub decreases-loop-had : goal.decreases-loop-had
-decreases-loop-had l = l.cur.limit - l.cur.at
+abbrev pub decreases-loop-item : goal.decreases-loop-item
+decreases-loop-item l = l.cur.limit - l.cur.at

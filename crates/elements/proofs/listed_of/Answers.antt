@@ -14,16 +14,16 @@ use Rattle.portions.specs.Lists.{ListsPortions}
 use Rattle.elements.proofs.listed_of.Goals as goal
 
 none-listed : (s : List ℕ) (r : Run) (numbers : List ℕ) → items_of s r ≡ no_items
-    → ListsPortions s r (record { count = 0; others = false; misspelt = false }) numbers
+    → ListsPortions s r (record { count = 0; misspelt = false }) numbers
 unfolding all_portions values bounded Inside
 none-listed s r numbers e =
     let t : tree_in s r ≡ empty = tree-none s r e in
     record {
-      others = rw t;
-      count = λ _. rw t;
-      misspelt = λ _. rw t;
-      inside = λ _ _. tt;
-      stored = λ _ _. rw t;
+      only = rw t;
+      count = rw t;
+      misspelt = rw t;
+      inside = λ _. tt;
+      stored = λ _. rw t;
     }
 
 pub returns-then-g-eq0 : goal.returns-then-g-eq0

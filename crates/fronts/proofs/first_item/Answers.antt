@@ -9,10 +9,10 @@ pub inside_first-requires : goal.inside_first-requires
 inside_first-requires c =
     let w = walk_first c.args.s.now in (
       c.requires,
-      answer-ends (count w.items) w.how _ _ (sym c.walk_one.ensures ∙ c.in-Ended.is),
+      answer-ends (count w.items) w.how _ _ (sym c.walk_one.ensures ∙ c.in-Ok.is),
     )
 
-pub returns-in-Refused : goal.returns-in-Refused
-returns-in-Refused c =
+pub returns-in-Err : goal.returns-in-Err
+returns-in-Err c =
     let w = walk_first c.args.s.now in
-    answer-stops (count w.items) w.how _ _ _ (sym c.walk_one.ensures ∙ c.in-Refused.is)
+    answer-stops (count w.items) w.how _ _ _ (sym c.walk_one.ensures ∙ c.in-Err.is)

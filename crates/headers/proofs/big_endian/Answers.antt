@@ -1,40 +1,42 @@
--- `big_endian` meets its contract: after i turns n is the number of the first i octets. That an octet is below 256 is known of `other` too, the
--- octet as far from the end: so a program that reads them the other way round is refused at the order alone.
-use mathlib.Core.Path.{◌≡◌, refl, ap, sym, ◌∙◌, subst}
-use Prim.Native.Nat.{ℕ, ◌+◌, ◌-◌, ◌^◌, ◌<◌}
-use borrow.Author.Rules.{rules}
-use native.Mathlib.Omega.{arith}
-use Rattle.headers.specs.Head.{big_endian_from}
-use Rattle.headers.proofs.Lengths.{be-more, be-grows, be-small, shift_is}
+-- `big_endian` meets its contract: after i turns n is the number of the first i octets.
+use Rattle.std.proofs.Common.{◌≡◌, ℕ, ◌+◌, ◌-◌, ◌*◌, ◌<◌, ◌≤◌}
+use Rattle.std.proofs.Common.{List, refl, ap, sym, ◌∙◌, length, take, drop, get_or, arith, rules, length-take, length-drop, take_all}
+use Rattle.std.proofs.lemmas.List.{get_or-drop, get_or-take}
+use Rattle.headers.specs.Head.{big_endian, big_endian_from}
+use Rattle.headers.proofs.Lengths.{be-more, be-grows, shift_is}
 use Rattle.headers.proofs.big_endian.Goals as goal
 
-pub loop-i-init : goal.loop-i-init
+-- the loop goes over k octets
+part-length : (s : List ℕ) (from k : ℕ) → from + k ≤ length s → length (take (from + k - from) (drop from s)) ≡ k
+part-length s from k h = simp (length-take, length-drop) (omega arith)
+
+pub loop-octet-init : goal.loop-octet-init
 unfolding big_endian_from
-loop-i-init c = (search rules, refl, search rules)
+loop-octet-init c = (omega (arith, part-length), refl, search rules)
 
-pub overflow_add-n : goal.overflow_add-n
-overflow_add-n c =
-    let l = c.loop-i in
+pub loop-octet-preserved : goal.loop-octet-preserved
+loop-octet-preserved c =
     let a = c.args in
-    let octet = c.shared_slice_known-in-loop-i-1.given (a.from + l.i) in
-    let other = c.shared_slice_known-in-loop-i-1.given (a.from + (a.k - 1 - l.i)) in
-    omega (arith, be-small l.i (omega arith), octet, other, c.wide.ensures, shift_is l.i l.n (omega arith) l.invariant.2)
-
-pub loop-i-preserved : goal.loop-i-preserved
-loop-i-preserved c =
-    let l = c.loop-i in
-    let a = c.args in
-    let x = c.wide.result in
-    let octet = c.shared_slice_known-in-loop-i-1.given (a.from + l.i) in
-    let other = c.shared_slice_known-in-loop-i-1.given (a.from + (a.k - 1 - l.i)) in
-    let small : x < 256 = omega (arith, octet, other) in
-    let product = ap (λ (m : ℕ). m + x) (shift_is l.i l.n (omega arith) l.invariant.2) in (
-      omega arith,
-      product ∙ simp (l.invariant.1, c.wide.ensures) (sym (be-more a.s.now a.from l.i (omega arith))),
-      subst (λ (m : ℕ). m < 256 ^ (l.i + 1)) (sym product) (be-grows l.i l.n x l.invariant.2 small),
+    let l = c.loop-octet in
+    let items = take (a.from + a.k - a.from) (drop a.from a.s.now) in
+    let i = l.octet-index in
+    let x = get_or items i 0 in
+    let here : i < a.from + a.k - a.from = omega (arith, part-length) in
+    let there : x ≡ get_or a.s.now (a.from + i) 0 = get_or-take _ (drop a.from a.s.now) i 0 here ∙ get_or-drop a.from a.s.now i 0 in
+    let small : x < 256 = omega (arith, c.type_inv.s (a.from + i)) in
+    let product = shift_is i l.n (omega arith) l.invariant.2 in (
+      l.invariant.0,
+      ap (λ (m : ℕ). m + x) (product ∙ ap (λ (m : ℕ). m * 256) l.invariant.1) ∙ sym (be-more items i c.loop-octet-test.true),
+      rw product (be-grows i l.n x l.invariant.2 small),
     )
 
 pub returns : goal.returns
 returns c =
-    let e : c.loop-i.i ≡ c.args.k = omega arith in
-    (rw (← e) c.loop-i.invariant.1, rw (← e) c.loop-i.invariant.2)
+    let a = c.args in
+    let l = c.loop-octet in
+    let items = take (a.from + a.k - a.from) (drop a.from a.s.now) in
+    let k : a.from + a.k - a.from ≡ a.k = omega arith in
+    let e : l.octet-index ≡ a.k = omega (arith, part-length) in (
+      l.invariant.1 ∙ ap big_endian (take_all l.octet-index items c.loop-octet-test.false ∙ ap (λ (n : ℕ). take n (drop a.from a.s.now)) k),
+      rw (← e) l.invariant.2,
+    )

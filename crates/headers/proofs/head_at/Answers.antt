@@ -5,11 +5,6 @@ use native.Mathlib.Omega.{arith}
 use Rattle.headers.specs.Head.{octet_at, definite_at, by_first, length_at, item_at, head_at}
 use Rattle.headers.proofs.head_at.Goals as goal
 
-pub overflow_add-result-then-is_usual-2 : goal.overflow_add-result-then-is_usual-2
-overflow_add-result-then-is_usual-2 c =
-    let u = c.is_usual.ensures c.if-is_usual.true in
-    omega arith
-
 pub returns-then-is_usual : goal.returns-then-is_usual
 unfolding head_at item_at length_at by_first definite_at
 returns-then-is_usual c =
@@ -27,7 +22,4 @@ returns-then-is_usual c =
       lt-ltb _ _ u.2,
       le-leb _ _ w,
       u.3.3,
-      c.wide.ensures,
-      c.wide-then-is_usual.ensures,
-      c.wide-then-is_usual-2.ensures,
     )

@@ -1,17 +1,7 @@
 -- `octets::is_usual` meets its contract: each octet that it lets through has its law in `Usual`.
-use mathlib.Core.Bool.{false≢true}
 use native.Mathlib.Omega.{arith}
 use Rattle.headers.proofs.Usual.{good-integer, good-null, good-string, good-sequence, good-other}
 use Rattle.headers.proofs.is_usual.Goals as goal
-
-pub returns-then-room-eq0 : goal.returns-then-room-eq0
-returns-then-room-eq0 c = λ e. absurd (false≢true e)
-
-pub returns-then-left-wide : goal.returns-then-left-wide
-returns-then-left-wide c = λ e. absurd (false≢true e)
-
-pub returns-then-len-gt127 : goal.returns-then-len-gt127
-returns-then-len-gt127 c = λ e. absurd (false≢true e)
 
 pub returns-in-2 : goal.returns-in-2
 returns-in-2 c = λ e. (omega arith, omega arith, omega arith, good-integer _ _ c.in-2.is e)
@@ -21,12 +11,6 @@ returns-in-5 c = λ e. (omega arith, omega arith, omega arith, good-null _ _ c.i
 
 pub returns-in-64-to-255 : goal.returns-in-64-to-255
 returns-in-64-to-255 c = λ e. (omega arith, omega arith, omega arith, good-other _ _ c.in-64-to-255.if-octet-lt64-own.false e)
-
-pub returns-in_default : goal.returns-in_default
-returns-in_default c = λ e. absurd (false≢true e)
-
-pub returns-in_default-2 : goal.returns-in_default-2
-returns-in_default-2 c = λ e. absurd (false≢true e)
 
 pub returns-in-4 : goal.returns-in-4
 returns-in-4 c = λ e. (omega arith, omega arith, omega arith, good-string _ _ c.in-4.is)

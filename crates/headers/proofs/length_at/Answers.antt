@@ -16,7 +16,7 @@ unfolding length_at by_first
 returns-in-0-to-127 c =
     let i = lt-ltb _ _ c.if-limit-from.false in
     let h = lt-ltb _ _ c.in-0-to-127.if-first-lt128-own.true in
-    simp (i, h, c.definite_at.ensures, c.wide.ensures)
+    simp (i, h, c.definite_at.ensures)
 
 pub returns-in-129-to-132 : goal.returns-in-129-to-132
 unfolding length_at by_first
@@ -25,7 +25,7 @@ returns-in-129-to-132 c =
     let h = le-ltb _ _ c.in-129-to-132.if-first-lt128-own.false in
     let k = lt-ltb _ _ c.in-129-to-132.if-first-lt133-own.true in
     let ne = ne_eqb _ _ c.in-129-to-132.in_default-own.rest.1 in
-    simp (i, h, ne, k, c.long_at.ensures, c.wide-in-129-to-132.ensures)
+    simp (i, h, ne, k, c.long_at.ensures)
 
 pub returns-in-133-to-255 : goal.returns-in-133-to-255
 unfolding length_at by_first

@@ -34,7 +34,7 @@ returns-then-len-lt128 c =
     let (e, l, q) = decided (goal.at.returns-then-len-lt128 c).Then-octet-ne31 in
     let one = ne_eqb (number_bits (octet_at s a.at)) 31 c.if-octet-ne31.true in
     let f = (passed-short s (octet_at s a.at) a.at (a.at + 1) a.limit _ c.if-len-lt128.true q).0 in
-    rw (c.wide.ensures, c.wide-then-len-lt128.ensures, c.wide-then-len-lt128-2.ensures) (sym (e ∙ f ∙ rw one))
+    sym (e ∙ f ∙ rw one)
 
 pub returns-then-len : goal.returns-then-len
 returns-then-len c =
@@ -43,4 +43,4 @@ returns-then-len c =
     let (e, l, q) = decided (goal.at.returns-then-len c).Then-octet-ne31 in
     let one = ne_eqb (number_bits (octet_at s a.at)) 31 c.if-octet-ne31.true in
     let f = passed-open s (octet_at s a.at) a.at (a.at + 1) a.limit _ c.if-len.true q in
-    rw (c.wide-then-len.ensures, c.wide-then-len-2.ensures) (sym (e ∙ f ∙ rw one))
+    sym (e ∙ f ∙ rw one)

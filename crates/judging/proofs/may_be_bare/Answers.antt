@@ -1,6 +1,5 @@
 -- `judging::may_be_bare` meets its contract: the rules are computed for each of the octets that it lets through, in each edition.
 use mathlib.Core.Path.{◌≡◌, refl, sym, subst}
-use mathlib.Core.Bool.{false≢true}
 use mathlib.Core.Logic.{◌⊎◌, inl, inr}
 use Prim.Native.Nat.{ℕ}
 use Rattle.contents.specs.Search.{amount, first_value, first_run, in_order}
@@ -29,6 +28,3 @@ in-each Of1993 key =
 
 pub returns-in-160 : goal.returns-in-160
 returns-in-160 c = λ e edition. in-each edition c.in-160.is
-
-pub returns-in_default : goal.returns-in_default
-returns-in_default c = λ e. absurd (false≢true e)

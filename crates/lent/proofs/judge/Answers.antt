@@ -7,7 +7,7 @@ use Rattle.answers.proofs.Working.{ruled-refused, ruled-letter}
 use Rattle.answers.proofs.Judging.{Refusing, refused-stopped, accepted-judged}
 use Rattle.lent.proofs.Cleared.{cleared}
 use Rattle.lent.proofs.judge.Goals as goal
-use Rattle.lent.proofs.judge.Goals.{In-Refused}
+use Rattle.lent.proofs.judge.Goals.{In-Err}
 
 pub judge_stream-requires : goal.judge_stream-requires
 judge_stream-requires c =
@@ -15,25 +15,25 @@ judge_stream-requires c =
     record { fine = (stream-fine s _ _ c.requires.by_index.2, stream-within s _ _ c.requires.by_index.2); lent = cleared s _ _ c.requires.stream_in_bounds.0 (c.clear.ensures.index_len_unchanged ∙ c.requires.stream_in_bounds.1) c.clear.ensures.empty }
 
 -- what rules 9 to 15 refuse
-refusing : (c : In-Refused) →
-    Refusing c.args.edition c.args.stream.now c.in-Refused.number c.in-Refused.place c.requires.by_index.1
+refusing : (c : In-Err) →
+    Refusing c.args.edition c.args.stream.now c.in-Err.refusal.number c.in-Err.refusal.place c.requires.by_index.1
 refusing c =
     refused-stopped c.requires.by_index.2
-    (subst (GivesVerdict c.args.edition c.args.stream.now c.judge_stream.new.rows c.judge_stream.new.index) c.in-Refused.is c.judge_stream.ensures)
+    (subst (GivesVerdict c.args.edition c.args.stream.now c.judge_stream.new.rows c.judge_stream.new.index) c.in-Err.is c.judge_stream.ensures)
 
 pub overflow_cast-result : goal.overflow_cast-result
-overflow_cast-result c = let r = refusing (goal.at.overflow_cast-result c).In-Refused in omega arith
+overflow_cast-result c = let r = refusing (goal.at.overflow_cast-result c).In-Err in omega arith
 
-pub overflow_cast-result-in-Refused : goal.overflow_cast-result-in-Refused
-overflow_cast-result-in-Refused c = let r = refusing (goal.at.overflow_cast-result-in-Refused c).In-Refused in omega arith
+pub overflow_cast-result-in-Err : goal.overflow_cast-result-in-Err
+overflow_cast-result-in-Err c = let r = refusing (goal.at.overflow_cast-result-in-Err c).In-Err in omega arith
 
-pub returns-in-Accepted : goal.returns-in-Accepted
-returns-in-Accepted c =
+pub returns-in-Ok : goal.returns-in-Ok
+returns-in-Ok c =
     let s = c.args.stream.now in
-    let held = subst (GivesVerdict c.args.edition s c.judge_stream.new.rows c.judge_stream.new.index) c.in-Accepted.is c.judge_stream.ensures in
+    let held = subst (GivesVerdict c.args.edition s c.judge_stream.new.rows c.judge_stream.new.index) c.in-Ok.is c.judge_stream.ensures in
     sym (ruled-letter c.args.edition s (accepted-judged c.requires.by_index.2 held.0).judged)
 
-pub returns-in-Refused : goal.returns-in-Refused
-returns-in-Refused c =
+pub returns-in-Err : goal.returns-in-Err
+returns-in-Err c =
     let a = c.args in
-    sym (ruled-refused a.edition a.stream.now (refusing (goal.at.returns-in-Refused c).In-Refused).judged)
+    sym (ruled-refused a.edition a.stream.now (refusing (goal.at.returns-in-Err c).In-Err).judged)

@@ -9,8 +9,8 @@ use Rattle.lent.proofs.rows_needed.Given as goal
 abbrev pub tops_in : List ℕ → Run → ℕ
 tops_in s r = tops (items_of s r)
 
-abbrev pub invariant-loop-rest : goal.invariant-loop-rest
-invariant-loop-rest l = Fine l.s l.cur × (l.n ≤ 4096) × (tops_in l.s l.initial.cur ≡ l.n + tops_in l.s l.cur)
+abbrev pub invariant-loop-item : goal.invariant-loop-item
+invariant-loop-item l = Fine l.s l.cur × (l.n ≤ 4096) × (tops_in l.s l.initial.cur ≡ l.n + tops_in l.s l.cur)
 
-abbrev pub decreases-loop-rest : goal.decreases-loop-rest
-decreases-loop-rest l = l.cur.limit - l.cur.at
+abbrev pub decreases-loop-item : goal.decreases-loop-item
+decreases-loop-item l = l.cur.limit - l.cur.at

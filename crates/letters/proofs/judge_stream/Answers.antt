@@ -3,41 +3,41 @@
 use mathlib.Core.Path.{◌≡◌, refl, sym, subst}
 use native.Mathlib.Omega.{arith}
 use borrow.Author.Rules.{rules}
+use Prim.Native.Nat.{ℕ}
 use Rattle.runs.specs.Runs.{Meeting}
 use Rattle.judging.specs.declared.PlacedItem.{PlacedItem}
-use Rattle.judging.specs.declared.Judgement.{Judgement}
+use Rattle.std.specs.Prelude.{Result}
+use Rattle.judging.specs.declared.Judged.{Judged}
 use Rattle.judging.specs.Judges.{Judges, Passing}
-use Rattle.contents.proofs.Firsts.{met}
 use Rattle.rows.proofs.Halves.{links-enough, fewer-links}
 use Rattle.letters.proofs.State.{Judging, judging-none, end-gives, refused-at, few, needed, judging-more}
 use Rattle.letters.proofs.judge_stream.Goals as goal
-use Rattle.letters.proofs.judge_stream.Goals.{In-Item, After-judge_element, In-Passes}
+use Rattle.letters.proofs.judge_stream.Goals.{In-Some, After-judge_element, In-Ok}
 
 -- an element is met
-meeting : (c : In-Item) →
+meeting : (c : In-Some) →
     Meeting c.args.s.now
-    c.loop-code.cur c.in-Item.code c.in-Item.first c.in-Item.past c.in-Item.inner c.in-Item.rest
-meeting c = met c.args.s.now
-    c.loop-code.cur c.meet.ensures c.in-Item.is
+    c.loop-item.cur c.in-Some.item.code c.in-Some.item.first c.in-Some.item.past c.in-Some.item.inner c.in-Some.item.rest
+meeting c = c.in-Some.ensures
 
-abbrev item : (c : In-Item) → PlacedItem
+abbrev item : (c : In-Some) → PlacedItem
 item c =
-    record { code = c.in-Item.code; first = c.loop-code.cur.at; past = c.in-Item.rest.at; inner = c.in-Item.inner }
+    record { code = c.in-Some.item.code; first = c.loop-item.cur.at; past = c.in-Some.item.rest.at; inner = c.in-Some.item.inner }
 
 -- and judged
-judged : (c : After-judge_element) (y : Judgement) → c.judge_element.result ≡ y
-    → Judges c.args.edition c.args.s.now c.loop-code.invariant.0.done (item (goal.at.After-judge_element c).In-Item) y
+judged : (c : After-judge_element) (y : Result Judged ℕ) → c.judge_element.result ≡ y
+    → Judges c.args.edition c.args.s.now c.loop-item.invariant.0.done (item (goal.at.After-judge_element c).In-Some) y
 judged c y e =
-    let state = c.loop-code.invariant.0 in
-    subst (Judges c.args.edition c.args.s.now state.done (item (goal.at.After-judge_element c).In-Item)) e (c.judge_element.ensures state.table state.done state.holds)
+    let state = c.loop-item.invariant.0 in
+    subst (Judges c.args.edition c.args.s.now state.done (item (goal.at.After-judge_element c).In-Some)) e (c.judge_element.ensures state.table state.done state.holds)
 
 -- and passed
-passing : (c : In-Passes) →
-    Passing c.args.edition c.args.s.now c.loop-code.invariant.0.done (item (goal.at.In-Passes c).In-Item) c.in-Passes.row c.in-Passes.hashes
-passing c = judged (goal.at.In-Passes c).After-judge_element _ c.in-Passes.is
+passing : (c : In-Ok) →
+    Passing c.args.edition c.args.s.now c.loop-item.invariant.0.done (item (goal.at.In-Ok c).In-Some) c.in-Ok.judged.row c.in-Ok.judged.hashes
+passing c = judged (goal.at.In-Ok c).After-judge_element _ c.in-Ok.is
 
-pub loop-code-init : goal.loop-code-init
-loop-code-init c =
+pub loop-item-init : goal.loop-item-init
+loop-item-init c =
     let a = c.args in (
       subst (Judging a.edition a.s.now a.rows.now a.index.now 0) (sym c.whole_stream-cur.ensures)
           (judging-none a.edition a.s.now a.rows.now a.index.now a.bounds.now c.requires.lent c.requires.fine.0),
@@ -47,19 +47,16 @@ loop-code-init c =
     )
 
 pub meet-requires : goal.meet-requires
-meet-requires c = c.loop-code.invariant.0.fine
+meet-requires c = c.loop-item.invariant.0.fine
 
-pub returns-in-End : goal.returns-in-End
-returns-in-End c =
-    let s = c.args.s.now in
-    let l = c.loop-code in
-    let end = met s l.cur c.meet.ensures c.in-End.is in
-    rw c.at_end.ensures (end-gives l.invariant.0 end)
+pub returns : goal.returns
+returns c =
+    rw c.at_end.ensures (end-gives c.loop-item.invariant.0 c.in_default.ensures)
 
 pub judge_element-requires : goal.judge_element-requires
 judge_element-requires c =
-    let l = c.loop-code in
-    let m = meeting (goal.at.judge_element-requires c).In-Item in record {
+    let l = c.loop-item in
+    let m = meeting (goal.at.judge_element-requires c).In-Some in record {
       done_rows = (l.invariant.0.table, l.invariant.0.done, l.invariant.0.holds);
       both_filed = l.invariant.0.filed;
       fine = (
@@ -71,17 +68,17 @@ judge_element-requires c =
       );
     }
 
-pub returns-in-Fails : goal.returns-in-Fails
-returns-in-Fails c =
-    let l = c.loop-code in
-    refused-at l.invariant.0 (meeting (goal.at.returns-in-Fails c).In-Item) _
-    (judged (goal.at.returns-in-Fails c).After-judge_element _ c.in-Fails.is)
+pub returns-in-Err : goal.returns-in-Err
+returns-in-Err c =
+    let l = c.loop-item in
+    refused-at l.invariant.0 (meeting (goal.at.returns-in-Err c).In-Some) _
+    (judged (goal.at.returns-in-Err c).After-judge_element _ c.in-Err.is)
 
 pub add_row-requires : goal.add_row-requires
 add_row-requires c =
-    let here = (goal.at.add_row-requires c).In-Item in
-    let l = c.loop-code in
-    let w = passing (goal.at.add_row-requires c).In-Passes in
+    let here = (goal.at.add_row-requires c).In-Some in
+    let l = c.loop-item in
+    let w = passing (goal.at.add_row-requires c).In-Ok in
     let some = needed l.invariant.0 (meeting here) w in
     record {
       done_rows = (l.invariant.0.table, l.invariant.0.done, l.invariant.0.holds);
@@ -97,17 +94,17 @@ add_row-requires c =
 pub overflow_add-n : goal.overflow_add-n
 overflow_add-n c = omega (
   arith,
-  few c.loop-code.invariant.0 (meeting (goal.at.overflow_add-n c).In-Item) (passing (goal.at.overflow_add-n c).In-Passes),
+  few c.loop-item.invariant.0 (meeting (goal.at.overflow_add-n c).In-Some) (passing (goal.at.overflow_add-n c).In-Ok),
 )
 
-pub loop-code-smaller : goal.loop-code-smaller
-loop-code-smaller c = (meeting (goal.at.loop-code-smaller c).In-Item).less
+pub loop-item-smaller : goal.loop-item-smaller
+loop-item-smaller c = (meeting (goal.at.loop-item-smaller c).In-Some).less
 
-pub loop-code-preserved : goal.loop-code-preserved
-loop-code-preserved c =
-    let l = c.loop-code in
-    let w = passing (goal.at.loop-code-preserved c).In-Passes in (
-      judging-more l.invariant.0 (meeting (goal.at.loop-code-preserved c).In-Item) w (c.add_row.ensures.grows l.invariant.0.table l.invariant.0.done _ l.invariant.0.holds w.says) c.add_row.ensures.both_filed_2,
+pub loop-item-preserved : goal.loop-item-preserved
+loop-item-preserved c =
+    let l = c.loop-item in
+    let w = passing (goal.at.loop-item-preserved c).In-Ok in (
+      judging-more l.invariant.0 (meeting (goal.at.loop-item-preserved c).In-Some) w (c.add_row.ensures.grows l.invariant.0.table l.invariant.0.done _ l.invariant.0.holds w.says) c.add_row.ensures.both_filed_2,
       search rules,
       search rules,
       search rules,

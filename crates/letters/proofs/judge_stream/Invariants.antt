@@ -6,8 +6,8 @@ use lib.ListN.{length}
 use Rattle.letters.proofs.State.{Judging}
 use Rattle.letters.proofs.judge_stream.Given as goal
 
-abbrev pub invariant-loop-code : goal.invariant-loop-code
-invariant-loop-code l = Judging l.edition l.s l.rows l.index l.n l.cur × (length l.rows ≡ length l.initial.rows) × (length l.index ≡ length l.initial.index) × (length l.bounds ≡ length l.initial.bounds)
+abbrev pub invariant-loop-item : goal.invariant-loop-item
+invariant-loop-item l = Judging l.edition l.s l.rows l.index l.n l.cur × (length l.rows ≡ length l.initial.rows) × (length l.index ≡ length l.initial.index) × (length l.bounds ≡ length l.initial.bounds)
 
-abbrev pub decreases-loop-code : goal.decreases-loop-code
-decreases-loop-code l = l.cur.limit - l.cur.at
+abbrev pub decreases-loop-item : goal.decreases-loop-item
+decreases-loop-item l = l.cur.limit - l.cur.at

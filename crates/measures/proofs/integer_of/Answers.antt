@@ -30,12 +30,12 @@ bounds-v-0 c =
     let v = c.args.v.now in
     omega (arith, (octets-bounded v (sym c.is_integer.ensures ∙ c.if-not-is_integer.false)).0)
 
-pub returns-then-wide-lt128 : goal.returns-then-wide-lt128
-returns-then-wide-lt128 c =
+pub returns-then-v-lt128 : goal.returns-then-v-lt128
+returns-then-v-lt128 c =
     let v = c.args.v.now in
     let e : is_integer v ≡ true = sym c.is_integer.ensures
     ∙ c.if-not-is_integer.false in
-    not-under v e _ (c.big_endian-n.ensures.0 ∙ whole v) (omega (arith, c.wide.ensures))
+    not-under v e _ (c.big_endian-n.ensures.0 ∙ whole v) (omega arith)
 
 pub power-requires : goal.power-requires
 power-requires c =
@@ -53,4 +53,4 @@ returns c =
     let e : is_integer v ≡ true = sym c.is_integer.ensures
     ∙ c.if-not-is_integer.false in
     under-zero v e _ (c.big_endian-n.ensures.0
-    ∙ whole v) (omega (arith, c.wide.ensures)) _ c.power.ensures
+    ∙ whole v) (omega arith) _ c.power.ensures

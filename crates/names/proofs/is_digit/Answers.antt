@@ -3,10 +3,10 @@ use borrow.Author.Tests.{le-leb, lt-leb}
 use Rattle.names.specs.Names.{is_digit}
 use Rattle.names.proofs.is_digit.Goals as goal
 
-pub returns-then-byte-lt48 : goal.returns-then-byte-lt48
+pub returns-then-byte-ge48 : goal.returns-then-byte-ge48
 unfolding is_digit
-returns-then-byte-lt48 c = rw (lt-leb _ _ c.if-byte-lt48.true)
+returns-then-byte-ge48 c = rw (le-leb _ _ c.if-byte-ge48.true)
 
-pub returns : goal.returns
+pub returns-else-byte-ge48 : goal.returns-else-byte-ge48
 unfolding is_digit
-returns c = rw (le-leb _ _ c.if-byte-lt48.false)
+returns-else-byte-ge48 c = rw (lt-leb _ _ c.if-byte-ge48.false)

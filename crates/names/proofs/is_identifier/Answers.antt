@@ -2,67 +2,49 @@
 use mathlib.Core.Path.{◌≡◌, sym, ◌∙◌}
 use mathlib.Core.Bool.{true, false, cond, ◌&&◌}
 use Prim.Native.Nat.{◌+◌}
-use native.Mathlib.Omega.{arith}
-use borrow.Author.Tests.{eq-eqb, ne_eqb}
+use borrow.Author.Tests.{eq-eqb}
 use lib.Dec.{eqb}
-use lib.ListN.{get_or}
-use lib.Seq.{slice, slice_empty}
+use lib.ListN.{get_or, drop, drop_of_length-le}
 use Rattle.names.specs.Names.{space_byte, is_digit, grouped, is_identifier}
-use Rattle.names.proofs.Spelling.{identifier-long, identifier-short, grouped-more}
+use Rattle.names.proofs.Spelling.{identifier-long, identifier-short, grouped-more, no_end}
 use Rattle.names.proofs.is_identifier.Goals as goal
-use Rattle.names.proofs.is_identifier.Goals.{In-loop-i}
+use Rattle.names.proofs.is_identifier.Goals.{In-loop-byte, then-is_digit, else-is_digit+else-byte-ne-SPACE+else-not-in_group}
 
 -- what the next byte decides
-turn : (c : In-loop-i) →
-    let a = c.args in
-    let l = c.loop-i in
-    is_identifier (slice a.first a.past a.s.now)
-    ≡ cond (is_digit (get_or a.s.now l.i 0))
-    (grouped true (slice (l.i + 1) a.past a.s.now))
-    (eqb (get_or a.s.now l.i 0) space_byte && l.in_group && grouped false (slice (l.i + 1) a.past a.s.now))
-turn c =
-    let a = c.args in
-    let l = c.loop-i in
-    l.invariant.1 ∙ grouped-more a.s.now l.i a.past (omega arith) (omega arith) l.in_group
+turn : (c : In-loop-byte) →
+    let name = c.args.name.now in
+    let l = c.loop-byte in
+    let byte = get_or name l.byte-index 0 in
+    let rest = drop (l.byte-index + 1) name in
+    is_identifier name ≡ cond (is_digit byte) (grouped true rest) (eqb byte space_byte && l.in_group && grouped false rest)
+turn c = c.loop-byte.invariant ∙ grouped-more c.args.name.now c.loop-byte.byte-index c.loop-byte-test.true c.loop-byte.in_group
 
-pub returns-then-past-first-gt-LONGEST_IDENTIFIER : goal.returns-then-past-first-gt-LONGEST_IDENTIFIER
-returns-then-past-first-gt-LONGEST_IDENTIFIER c =
-    let a = c.args in sym (identifier-long a.s.now a.first a.past (omega arith) c.if-past-first-gt-LONGEST_IDENTIFIER.true)
+pub returns-then-name-gt-LONGEST_IDENTIFIER : goal.returns-then-name-gt-LONGEST_IDENTIFIER
+returns-then-name-gt-LONGEST_IDENTIFIER c = sym (identifier-long c.args.name.now c.if-name-gt-LONGEST_IDENTIFIER.true)
 
-pub loop-i-init : goal.loop-i-init
-loop-i-init c =
-    let a = c.args in (omega arith, identifier-short a.s.now a.first a.past (omega arith) c.if-past-first-gt-LONGEST_IDENTIFIER.false)
-
-pub loop-i-preserved-then-is_digit : goal.loop-i-preserved-then-is_digit
-loop-i-preserved-then-is_digit c =
-    (omega arith, turn (goal.at.loop-i-preserved-then-is_digit c).In-loop-i ∙ rw (sym c.is_digit.ensures ∙ c.if-is_digit.true))
+pub loop-byte-init : goal.loop-byte-init
+loop-byte-init c = identifier-short c.args.name.now c.if-name-gt-LONGEST_IDENTIFIER.false
 
 pub returns-then-byte-ne-SPACE : goal.returns-then-byte-ne-SPACE
 returns-then-byte-ne-SPACE c =
-    sym (turn (goal.at.returns-then-byte-ne-SPACE c).In-loop-i ∙ rw (sym c.is_digit.ensures ∙ c.if-is_digit.false, ne_eqb _ _ c.if-byte-ne-SPACE.true))
-
-pub returns-then-not-in_group : goal.returns-then-not-in_group
-returns-then-not-in_group c =
-    sym (turn (goal.at.returns-then-not-in_group c).In-loop-i ∙ rw (
+    sym (turn (goal.at.returns-then-byte-ne-SPACE c).In-loop-byte ∙ rw (
       sym c.is_digit.ensures ∙ c.if-is_digit.false,
-      eq-eqb _ _ c.if-byte-ne-SPACE.false,
-      c.if-not-in_group.true,
+      no_end _ c.loop-byte.in_group (grouped false _) c.then-byte-ne-SPACE.either,
     ))
 
-pub loop-i-preserved : goal.loop-i-preserved
-loop-i-preserved c = (
-  omega arith,
-  turn (goal.at.loop-i-preserved c).In-loop-i ∙ rw (
-    sym c.is_digit.ensures ∙ c.if-is_digit.false,
-    eq-eqb _ _ c.if-byte-ne-SPACE.false,
-    c.if-not-in_group.false,
-  ),
-)
+pub loop-byte-preserved : goal.loop-byte-preserved
+loop-byte-preserved c =
+    let t = turn (goal.at.loop-byte-preserved c).In-loop-byte in
+    elim c.if-is_digit.branch [
+      | then-is_digit w ↦ t ∙ rw (w.in_group-is, sym c.is_digit.ensures ∙ w.if-is_digit.true)
+      | else-is_digit+else-byte-ne-SPACE+else-not-in_group w ↦ t ∙ rw (
+        w.in_group-is,
+        sym c.is_digit.ensures ∙ w.if-is_digit.false,
+        eq-eqb _ _ w.if-byte-ne-SPACE.false,
+        w.if-not-in_group.false,
+      )
+    ]
 
 pub returns : goal.returns
 unfolding grouped
-returns c =
-    let a = c.args in
-    let l = c.loop-i in
-    let e : l.i ≡ a.past = omega arith in
-    sym (l.invariant.1 ∙ rw (e, slice_empty a.past a.s.now))
+returns c = sym (c.loop-byte.invariant ∙ rw (drop_of_length-le c.args.name.now c.loop-byte-test.false))

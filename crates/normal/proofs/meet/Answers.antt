@@ -1,19 +1,21 @@
--- `normal::meet` meets its contract: each arm is a case of `ahead_by`.
-use mathlib.Core.Path.{◌≡◌, sym, ◌∙◌}
+-- `normal::meet` meets its contract: an item is met where its header passed, and none where the run ends.
+use mathlib.Core.Path.{◌≡◌, refl, sym, ◌∙◌}
 use mathlib.Core.Bool.{Bool}
 use mathlib.Core.List.{List}
 use Prim.Native.Nat.{ℕ, ◌<◌}
 use borrow.Author.Tests.{le-leb, lt-leb}
 use native.Mathlib.Omega.{arith}
+use Rattle.std.specs.Prelude.{None}
+use Rattle.headers.specs.declared.Header.{Header}
 use Rattle.headers.specs.declared.Head.{Head}
 use Rattle.headers.specs.declared.Head.TheVariants.{Item, ClosingMark, Refusal}
 use Rattle.headers.specs.Head.{head_at}
-use Rattle.normal.specs.Passes.{ahead_by, ahead_at}
+use Rattle.normal.specs.Passes.{item_of, ahead_at}
 use Rattle.normal.proofs.Passes.{passed}
 use Rattle.normal.proofs.meet.Goals as goal
 
 before-limit : (room : ℕ) (s : List ℕ) (at limit : ℕ) (marked : Bool) → at < limit → (head : Head) → head_at s at limit marked room ≡ head
-    → ahead_by at head ≡ ahead_at room s at limit marked
+    → item_of head ≡ ahead_at room s at limit marked
 unfolding ahead_at
 before-limit room s at limit marked l head e = rw (lt-leb limit at l, e)
 
@@ -32,14 +34,13 @@ returns-in-Item c =
     before-limit a.room a.s.now a.at a.limit a.marked (omega arith) (Item c.in-Item.h)
     (sym c.passed_head.ensures ∙ c.in-Item.is)
 
-pub returns-in-ClosingMark : goal.returns-in-ClosingMark
-returns-in-ClosingMark c =
-    let a = c.args in
-    before-limit a.room a.s.now a.at a.limit a.marked (omega arith) ClosingMark
-    (sym c.passed_head.ensures ∙ c.in-ClosingMark.is)
+no-item : (head : Head) → ((h : Header) → head ≡ Item h → ⊥) → item_of head ≡ None
+no-item (Item h) other = absurd (other h refl)
+no-item ClosingMark other = refl
+no-item (Refusal number place) other = refl
 
-pub returns-in-Refusal : goal.returns-in-Refusal
-returns-in-Refusal c =
+pub returns-in_default : goal.returns-in_default
+returns-in_default c =
     let a = c.args in
-    before-limit a.room a.s.now a.at a.limit a.marked (omega arith) (Refusal _ _)
-    (sym c.passed_head.ensures ∙ c.in-Refusal.is)
+    sym (no-item c.passed_head.result c.in_default.not-Item)
+    ∙ before-limit a.room a.s.now a.at a.limit a.marked (omega arith) c.passed_head.result (sym c.passed_head.ensures)

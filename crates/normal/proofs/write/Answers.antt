@@ -1,64 +1,21 @@
--- `normal::write` meets its contract: its tests are those of `answer_of`, and what is written is the normal form, copied if it is the stream's
--- own octets.
-use mathlib.Core.Path.{◌≡◌}
-use mathlib.Core.Bool.{true, false}
-use Prim.Native.Nat.{◌≤◌}
-use borrow.Author.Rules.{rules}
+-- `normal::write` meets its contract: its test is the first of `answer_of`, and within the limit the two writers give the same.
+use mathlib.Core.Path.{subst}
 use native.Mathlib.Omega.{arith}
-use lib.ListN.{length}
-use lib.Seq.{slice}
-use Rattle.octets.specs.Walk.{deepest}
 use Rattle.normal.specs.Normal.{normal_form}
-use Rattle.normal.specs.Passes.{RunEnds}
-use Rattle.normal.proofs.Answers.{form_is, stream-measured, gives-17, gives-18, gives-form}
+use Rattle.normal.specs.Writes.{Answer, GivesAnswer}
+use Rattle.normal.proofs.Answers.{stream-measured, gives-17, same-within}
 use Rattle.normal.proofs.write.Goals as goal
-use Rattle.normal.proofs.write.Goals.{Start, After-measure_run-m}
 
--- the whole stream is a run that ended
-ends : (c : Start) → let s = c.args.s.now in RunEnds deepest s 0 (length s) false
-ends c = record { order = omega arith; within = omega arith; small = c.requires.0; whole = c.requires.1 }
-
-pub measure_run-m-requires : goal.measure_run-m-requires
-measure_run-m-requires c = ends (goal.at.measure_run-m-requires c).Start
-
--- what was measured
-measured : (c : After-measure_run-m) →
-    let s = c.args.s.now in
-    let m = c.measure_run-m.result in
-    (m.size ≡ length (normal_form s)) × (m.shortest ≡ true → (m.size ≤ length s) × (normal_form s ≡ slice 0 m.size s))
-measured c =
+pub returns-then-m-gt-STREAM_LIMIT : goal.returns-then-m-gt-STREAM_LIMIT
+returns-then-m-gt-STREAM_LIMIT c =
     let a = c.args in
-    stream-measured a.s.now (ends (goal.at.After-measure_run-m c).Start) c.measure_run-m.result c.measure_run-m.ensures
+    let (e, own) = stream-measured a.s.now c.measure-m.result c.measure-m.ensures in
+    gives-17 (normal_form a.s.now) a.out.now (omega arith)
 
-pub returns-then-length-gt-STREAM_LIMIT : goal.returns-then-length-gt-STREAM_LIMIT
-returns-then-length-gt-STREAM_LIMIT c =
+pub returns : goal.returns
+returns c =
     let a = c.args in
-    gives-17 (normal_form a.s.now) a.out.now (omega (arith, (measured (goal.at.returns-then-length-gt-STREAM_LIMIT c).After-measure_run-m).0))
-
-pub returns-then-out-length : goal.returns-then-out-length
-returns-then-out-length c =
-    let a = c.args in
-    let e = (measured (goal.at.returns-then-out-length c).After-measure_run-m).0 in
-    gives-18 (normal_form a.s.now) a.out.now (omega arith) (omega arith)
-
-pub put_value-requires : goal.put_value-requires
-put_value-requires c =
-    let (e, own) = measured (goal.at.put_value-requires c).After-measure_run-m in
-    let l = (own c.if-shortest.true).0 in
-    (omega arith, l, omega arith)
-
-pub put_run-requires : goal.put_run-requires
-put_run-requires c = (ends (goal.at.put_run-requires c).Start, search rules)
-
-pub returns-then-shortest : goal.returns-then-shortest
-returns-then-shortest c =
-    let a = c.args in
-    let (e, own) = measured (goal.at.returns-then-shortest c).After-measure_run-m in
-    let form = (own c.if-shortest.true).1 in
-    gives-form (normal_form a.s.now) a.out.now (omega arith) (omega arith) _ e _ form _ _ c.put_value.ensures
-
-pub returns-else-shortest : goal.returns-else-shortest
-returns-else-shortest c =
-    let a = c.args in
-    let e = (measured (goal.at.returns-else-shortest c).After-measure_run-m).0 in
-    gives-form (normal_form a.s.now) a.out.now (omega arith) (omega arith) _ e _ (form_is a.s.now) _ _ c.put_run.ensures
+    let form = normal_form a.s.now in
+    let (e, own) = stream-measured a.s.now c.measure-m.result c.measure-m.ensures in
+    subst (λ (x : Answer). GivesAnswer x form a.out.now c.write_measured.result c.write_measured.new.out) (same-within form a.out.now (omega arith))
+    c.write_measured.ensures

@@ -9,8 +9,7 @@ use native.Mathlib.Omega.{arith}
 use borrow.Author.Tests.{eq-eqb, ne_eqb}
 use Rattle.headers.specs.declared.Head.{Head}
 use Rattle.headers.specs.declared.Head.TheVariants.{Item, ClosingMark, Refusal}
-use Rattle.octets.specs.declared.Outcome.{Outcome}
-use Rattle.octets.specs.declared.Outcome.TheVariants.{Ended, Refused}
+use Rattle.octets.specs.Told.{Outcome, ended, refused}
 use Rattle.headers.specs.Head.{head_at}
 use Rattle.octets.specs.Walk.{run, answer}
 use Rattle.octets.specs.Further.{plus}
@@ -53,7 +52,7 @@ read : (t : ℕ) (c : walk_run-After-head_at t) (x : Head) → c.head_at.result 
     head_at a.s.now c.loop-at.at a.limit a.marked a.room ≡ x
 read t c x e = sym c.head_at.ensures ∙ e
 
-passed : (t : ℕ) (c : walk_run-After-walk_item t) (next k : ℕ) → c.walk_item.result ≡ Ended next k →
+passed : (t : ℕ) (c : walk_run-After-walk_item t) (next k : ℕ) → c.walk_item.result ≡ ended next k →
     let a = c.args in
     let l = c.loop-at in
     (l.at + 2 + (k + k) ≤ next)
@@ -65,7 +64,7 @@ passed t c next k w =
     let l = c.loop-at in
     let rest : Outcome = answer (run a.room a.s.now next a.limit a.marked) in
     let e = read t (goal.at.walk_run-After-walk_item t c).After-head_at (Item c.in-Item.h) c.in-Item.is in
-    let v : answer (value_of a.room a.s.now c.in-Item.h) ≡ Ended next k = sym c.walk_item.ensures ∙ w in
+    let v : answer (value_of a.room a.s.now c.in-Item.h) ≡ ended next k = sym c.walk_item.ensures ∙ w in
     let o = passed_ok a.room a.s.now l.at a.limit a.marked c.in-Item.h e next k v in (
       o.0,
       o.1,
@@ -76,21 +75,21 @@ passed t c next k w =
           ∙ ap (λ (n : ℕ). plus n rest) (omega arith),
     )
 
-broken : (t : ℕ) (c : walk_run-After-walk_item t) (number place k : ℕ) → c.walk_item.result ≡ Refused number place k →
+broken : (t : ℕ) (c : walk_run-After-walk_item t) (number place k : ℕ) → c.walk_item.result ≡ refused number place k →
     let a = c.args in
     let l = c.loop-at in
     (l.at + 2 + (k + k) ≤ a.limit)
-    × (answer (run a.room a.s.now a.from a.limit a.marked) ≡ Refused number place (l.count + 1 + k))
+    × (answer (run a.room a.s.now a.from a.limit a.marked) ≡ refused number place (l.count + 1 + k))
 broken t c number place k w =
     let a = c.args in
     let l = c.loop-at in
     let e = read t (goal.at.walk_run-After-walk_item t c).After-head_at (Item c.in-Item.h) c.in-Item.is in
-    let v : answer (value_of a.room a.s.now c.in-Item.h) ≡ Refused number place k = sym c.walk_item.ensures ∙ w in (
+    let v : answer (value_of a.room a.s.now c.in-Item.h) ≡ refused number place k = sym c.walk_item.ensures ∙ w in (
       broken-ok a.room a.s.now l.at a.limit a.marked c.in-Item.h e number place k v,
       l.invariant.2
           ∙ ap (plus l.count) (breaks a.room a.s.now l.at a.limit a.marked
           c.loop-at-test.true c.in-Item.h e number place k v)
-          ∙ ap (Refused number place) (omega arith),
+          ∙ ap (refused number place) (omega arith),
     )
 
 pub walk_run-loop-at-init : goal.walk_run-loop-at-init
@@ -112,7 +111,7 @@ walk_run-returns-in-ClosingMark t c =
     sym (l.invariant.2
     ∙ ap (plus l.count) (closes a.room a.s.now l.at a.limit a.marked c.loop-at-test.true
     (read t (goal.at.walk_run-returns-in-ClosingMark t c).After-head_at ClosingMark c.in-ClosingMark.is))
-    ∙ ap (Ended (l.at + 2)) (add-zero l.count))
+    ∙ ap (ended (l.at + 2)) (add-zero l.count))
 
 pub walk_run-returns-in-Refusal : goal.walk_run-returns-in-Refusal
 walk_run-returns-in-Refusal t c =
@@ -120,8 +119,9 @@ walk_run-returns-in-Refusal t c =
     let l = c.loop-at in
     sym (l.invariant.2
     ∙ ap (plus l.count) (refuses a.room a.s.now l.at a.limit a.marked c.loop-at-test.true
-    c.in-Refusal.number c.in-Refusal.place (read t (goal.at.walk_run-returns-in-Refusal t c).After-head_at (Refusal c.in-Refusal.number c.in-Refusal.place) c.in-Refusal.is))
-    ∙ ap (Refused c.in-Refusal.number c.in-Refusal.place) (add-zero l.count))
+    c.in-Refusal.number c.in-Refusal.place
+    (read t (goal.at.walk_run-returns-in-Refusal t c).After-head_at (Refusal c.in-Refusal.number c.in-Refusal.place) c.in-Refusal.is))
+    ∙ ap (refused c.in-Refusal.number c.in-Refusal.place) (add-zero l.count))
 
 pub walk_run-walk_item-requires : goal.walk_run-walk_item-requires
 walk_run-walk_item-requires t c =
@@ -131,25 +131,26 @@ walk_run-walk_item-requires t c =
     (omega arith, (omega arith, omega arith, omega arith))
 
 pub walk_run-overflow_add-count : goal.walk_run-overflow_add-count
-walk_run-overflow_add-count t c = let o = passed t (goal.at.walk_run-overflow_add-count t c).After-walk_item _ _ c.in-Ended.is in omega arith
+walk_run-overflow_add-count t c = let o = passed t (goal.at.walk_run-overflow_add-count t c).After-walk_item _ _ c.in-Ok.is in omega arith
 
-pub walk_run-overflow_add-count-in-Ended : goal.walk_run-overflow_add-count-in-Ended
-walk_run-overflow_add-count-in-Ended t c = let o = passed t (goal.at.walk_run-overflow_add-count-in-Ended t c).After-walk_item _ _ c.in-Ended.is in omega arith
+pub walk_run-overflow_add-count-in-Ok : goal.walk_run-overflow_add-count-in-Ok
+walk_run-overflow_add-count-in-Ok t c = let o = passed t (goal.at.walk_run-overflow_add-count-in-Ok t c).After-walk_item _ _ c.in-Ok.is in omega arith
 
 pub walk_run-loop-at-smaller : goal.walk_run-loop-at-smaller
-walk_run-loop-at-smaller t c = let o = passed t (goal.at.walk_run-loop-at-smaller t c).After-walk_item _ _ c.in-Ended.is in omega arith
+walk_run-loop-at-smaller t c = let o = passed t (goal.at.walk_run-loop-at-smaller t c).After-walk_item _ _ c.in-Ok.is in omega arith
 
 pub walk_run-loop-at-preserved : goal.walk_run-loop-at-preserved
-walk_run-loop-at-preserved t c = let o = passed t (goal.at.walk_run-loop-at-preserved t c).After-walk_item _ _ c.in-Ended.is in (o.1, omega arith, o.2)
+walk_run-loop-at-preserved t c = let o = passed t (goal.at.walk_run-loop-at-preserved t c).After-walk_item _ _ c.in-Ok.is in (o.1, omega arith, o.2)
 
-pub walk_run-overflow_add-result-in-Refused : goal.walk_run-overflow_add-result-in-Refused
-walk_run-overflow_add-result-in-Refused t c = let o = broken t (goal.at.walk_run-overflow_add-result-in-Refused t c).After-walk_item _ _ _ c.in-Refused.is in omega arith
+pub walk_run-overflow_add-result-in-Err : goal.walk_run-overflow_add-result-in-Err
+walk_run-overflow_add-result-in-Err t c = let o = broken t (goal.at.walk_run-overflow_add-result-in-Err t c).After-walk_item _ _ _ c.in-Err.is in omega arith
 
-pub walk_run-overflow_add-result-in-Refused-2 : goal.walk_run-overflow_add-result-in-Refused-2
-walk_run-overflow_add-result-in-Refused-2 t c = let o = broken t (goal.at.walk_run-overflow_add-result-in-Refused-2 t c).After-walk_item _ _ _ c.in-Refused.is in omega arith
+pub walk_run-overflow_add-result-in-Err-2 : goal.walk_run-overflow_add-result-in-Err-2
+walk_run-overflow_add-result-in-Err-2 t c =
+    let o = broken t (goal.at.walk_run-overflow_add-result-in-Err-2 t c).After-walk_item _ _ _ c.in-Err.is in omega arith
 
-pub walk_run-returns-in-Refused : goal.walk_run-returns-in-Refused
-walk_run-returns-in-Refused t c = sym (broken t (goal.at.walk_run-returns-in-Refused t c).After-walk_item _ _ _ c.in-Refused.is).1
+pub walk_run-returns-in-Err : goal.walk_run-returns-in-Err
+walk_run-returns-in-Err t c = sym (broken t (goal.at.walk_run-returns-in-Err t c).After-walk_item _ _ _ c.in-Err.is).1
 
 -- at the limit: `at` is the limit, and `marked` is what the test said
 at_limit : (t : ℕ) (c : walk_run-After-loop-at t) (b : Bool) →
@@ -166,10 +167,12 @@ pub walk_run-returns-then-marked : goal.walk_run-returns-then-marked
 walk_run-returns-then-marked t c =
     let a = c.args in
     let n = c.loop-at.count in
-    sym (at_limit t (goal.at.walk_run-returns-then-marked t c).After-loop-at true c.if-marked.true ∙ ap (plus n) (unclosed a.room a.s.now a.limit) ∙ ap (Refused 7 a.limit) (add-zero n))
+    sym (at_limit t (goal.at.walk_run-returns-then-marked t c).After-loop-at true c.if-marked.true
+    ∙ ap (plus n) (unclosed a.room a.s.now a.limit) ∙ ap (refused 7 a.limit) (add-zero n))
 
 pub walk_run-returns-else-marked : goal.walk_run-returns-else-marked
 walk_run-returns-else-marked t c =
     let a = c.args in
     let n = c.loop-at.count in
-    sym (at_limit t (goal.at.walk_run-returns-else-marked t c).After-loop-at false c.if-marked.false ∙ ap (plus n) (closed a.room a.s.now a.limit) ∙ ap (Ended a.limit) (add-zero n))
+    sym (at_limit t (goal.at.walk_run-returns-else-marked t c).After-loop-at false c.if-marked.false
+    ∙ ap (plus n) (closed a.room a.s.now a.limit) ∙ ap (ended a.limit) (add-zero n))

@@ -17,18 +17,18 @@ walk_item-requires c =
     let o = header_ok a.s.now a.at a.limit a.room false c.in-Item.h (sym c.read_head.ensures ∙ c.in-Item.is) in
     (o.deep, o.order, omega arith)
 
-pub overflow_add-result-in-Ended : goal.overflow_add-result-in-Ended
-overflow_add-result-in-Ended c =
+pub overflow_add-result-in-Ok : goal.overflow_add-result-in-Ok
+overflow_add-result-in-Ok c =
     let a = c.args in
     let e = sym c.read_head.ensures ∙ c.in-Item.is in
-    let o = passed_ok a.room a.s.now a.at a.limit false c.in-Item.h e _ _ (sym c.walk_item.ensures ∙ c.in-Ended.is) in
+    let o = passed_ok a.room a.s.now a.at a.limit false c.in-Item.h e _ _ (sym c.walk_item.ensures ∙ c.in-Ok.is) in
     omega arith
 
-pub overflow_add-result-in-Refused : goal.overflow_add-result-in-Refused
-overflow_add-result-in-Refused c =
+pub overflow_add-result-in-Err : goal.overflow_add-result-in-Err
+overflow_add-result-in-Err c =
     let a = c.args in
     let e = sym c.read_head.ensures ∙ c.in-Item.is in
-    let o = broken-ok a.room a.s.now a.at a.limit false c.in-Item.h e _ _ _ (sym c.walk_item.ensures ∙ c.in-Refused.is) in
+    let o = broken-ok a.room a.s.now a.at a.limit false c.in-Item.h e _ _ _ (sym c.walk_item.ensures ∙ c.in-Err.is) in
     omega arith
 
 pub returns-in-ClosingMark : goal.returns-in-ClosingMark
@@ -43,16 +43,16 @@ returns-in-Refusal c =
     sym (one-refuses a.room a.s.now a.at a.limit c.if-limit-at.false _ _
     (sym c.read_head.ensures ∙ c.in-Refusal.is))
 
-pub returns-in-Ended : goal.returns-in-Ended
-returns-in-Ended c =
+pub returns-in-Ok : goal.returns-in-Ok
+returns-in-Ok c =
     let a = c.args in
     let e = sym c.read_head.ensures ∙ c.in-Item.is in
     sym (one_passes a.room a.s.now a.at a.limit c.if-limit-at.false
-    c.in-Item.h e _ _ (sym c.walk_item.ensures ∙ c.in-Ended.is))
+    c.in-Item.h e _ _ (sym c.walk_item.ensures ∙ c.in-Ok.is))
 
-pub returns-in-Refused : goal.returns-in-Refused
-returns-in-Refused c =
+pub returns-in-Err : goal.returns-in-Err
+returns-in-Err c =
     let a = c.args in
     let e = sym c.read_head.ensures ∙ c.in-Item.is in
     sym (one-breaks a.room a.s.now a.at a.limit c.if-limit-at.false
-    c.in-Item.h e _ _ _ (sym c.walk_item.ensures ∙ c.in-Refused.is))
+    c.in-Item.h e _ _ _ (sym c.walk_item.ensures ∙ c.in-Err.is))

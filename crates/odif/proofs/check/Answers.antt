@@ -6,4 +6,4 @@ pub ask-told-requires : goal.ask-told-requires
 ask-told-requires c = tt
 
 pub returns : goal.returns
-returns c = check-left c.ask-told.ensures
+returns c = rw c.from.ensures (check-left c.ask-told.ensures)

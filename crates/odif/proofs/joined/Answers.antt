@@ -6,4 +6,4 @@ pub ask-put-requires : goal.ask-put-requires
 ask-put-requires c = tt
 
 pub returns : goal.returns
-returns c = joined-left c.ask-put.ensures
+returns c = rw c.from.ensures (joined-left c.ask-put.ensures)

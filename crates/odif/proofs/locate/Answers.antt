@@ -6,4 +6,4 @@ pub ask-found-requires : goal.ask-found-requires
 ask-found-requires c = tt
 
 pub returns : goal.returns
-returns c = let f = content-left c.ask-found.ensures in (f.answered, f.stands)
+returns c = let f = content-left c.ask-found.ensures in rw c.from.ensures (f.answered, f.stands)

@@ -12,7 +12,10 @@ pub is_named-named-requires : goal.is_named-named-requires
 is_named-named-requires c = row_inside c.requires.0.1 c.args.k c.requires.1
 
 pub portions_of-lists-requires : goal.portions_of-lists-requires
-portions_of-lists-requires c = record { scratch_width_in_bounds = row_inside c.requires.0.1 c.args.k c.requires.1; meetable = meetable (rows_tell c.requires.0.1) c.args.k c.requires.1 }
+portions_of-lists-requires c = record {
+  scratch_width_in_bounds = row_inside c.requires.0.1 c.args.k c.requires.1;
+  meetable = meetable (rows_tell c.requires.0.1) c.args.k c.requires.1;
+}
 
 pub returns : goal.returns
 unfolding sight_for

@@ -1,9 +1,9 @@
 -- `order_b::fault_b` meets its contract: the first element, then the pass.
-use mathlib.Core.Path.{◌≡◌, ap, sym, ◌∙◌}
+use mathlib.Core.Path.{◌≡◌, ◌∙◌}
 use Prim.Native.Nat.{ℕ, ◌<◌}
 use native.Mathlib.Omega.{arith}
 use lib.ListN.{length}
-use Rattle.order_b.specs.Steps.{state_of, step_of}
+use Rattle.order_b.specs.Steps.{state_of}
 use Rattle.order_b.proofs.Passing.{first_stops, first-starts, none-fault}
 use Rattle.order_b.proofs.fault_b.Goals as goal
 
@@ -19,14 +19,13 @@ first_step-requires c = record { letter_rows = c.requires.letter_rows; filed = c
 pub pass-requires : goal.pass-requires
 pass-requires c = record { letter_rows = c.requires.letter_rows; filed = c.requires.filed; n_nonzero = positive _ c.if-n-eq0.false }
 
-pub returns-in-Stops : goal.returns-in-Stops
-returns-in-Stops c elements ready aside =
+pub returns-in-None : goal.returns-in-None
+returns-in-None c elements ready aside =
     let some-rows : 0 < length elements = omega (arith, positive _ c.if-n-eq0.false, ready.counted) in
-    first_stops elements aside some-rows (ap step_of (sym c.in-Stops.is) ∙ c.first_step.ensures elements ready aside)
+    first_stops elements aside some-rows (c.in-None.ensures elements ready aside)
 
-pub returns-in-Goes : goal.returns-in-Goes
-returns-in-Goes c elements ready aside =
+pub returns-in-Some : goal.returns-in-Some
+returns-in-Some c elements ready aside =
     let some-rows : 0 < length elements = omega (arith, positive _ c.if-n-eq0.false, ready.counted) in
     c.pass.ensures elements ready aside
-    ∙ first-starts elements aside some-rows (state_of c.in-Goes.start) (ap step_of (sym c.in-Goes.is)
-    ∙ c.first_step.ensures elements ready aside)
+    ∙ first-starts elements aside some-rows (state_of c.in-Some.start) (c.in-Some.ensures elements ready aside)

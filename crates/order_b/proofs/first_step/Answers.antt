@@ -14,7 +14,10 @@ returns-then-kind-ne-PROFILE c elements ready aside = first-not ready 0 c.requir
 
 pub portions_of-left-requires : goal.portions_of-left-requires
 portions_of-left-requires c =
-    record { scratch_width_in_bounds = omega (arith, c.requires.n_nonzero, c.requires.letter_rows.1.holds.identifiers.in_table); meetable = meetable (rows_tell c.requires.letter_rows.1) 0 c.requires.n_nonzero }
+    record {
+      scratch_width_in_bounds = omega (arith, c.requires.n_nonzero, c.requires.letter_rows.1.holds.identifiers.in_table);
+      meetable = meetable (rows_tell c.requires.letter_rows.1) 0 c.requires.n_nonzero;
+    }
 
 pub can_come-requires : goal.can_come-requires
 can_come-requires c = omega (

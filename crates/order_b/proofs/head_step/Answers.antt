@@ -17,7 +17,10 @@ returns-then-not-may_follow c elements ready aside =
 
 pub portions_of-left-requires : goal.portions_of-left-requires
 portions_of-left-requires c =
-    record { scratch_width_in_bounds = omega (arith, c.requires.j_lt_n, c.requires.letter_rows.1.holds.identifiers.in_table); meetable = meetable (rows_tell c.requires.letter_rows.1) c.args.j c.requires.j_lt_n }
+    record {
+      scratch_width_in_bounds = omega (arith, c.requires.j_lt_n, c.requires.letter_rows.1.holds.identifiers.in_table);
+      meetable = meetable (rows_tell c.requires.letter_rows.1) c.args.j c.requires.j_lt_n;
+    }
 
 pub can_come-requires : goal.can_come-requires
 can_come-requires c = omega (

@@ -13,7 +13,7 @@ returns-then-kind_at-eq-TEXT_UNIT c elements ready aside =
     c.unit_step.ensures elements ready aside
     ∙ step-unit ready c.args.j c.requires.j_lt_n (state_of c.args.state) (sym c.kind_at.ensures ∙ c.if-kind_at-eq-TEXT_UNIT.true)
 
-pub returns : goal.returns
-returns c elements ready aside =
+pub returns-else-kind_at-eq-TEXT_UNIT : goal.returns-else-kind_at-eq-TEXT_UNIT
+returns-else-kind_at-eq-TEXT_UNIT c elements ready aside =
     c.head_step.ensures elements ready aside
     ∙ step-head ready c.args.j c.requires.j_lt_n (state_of c.args.state) (λ e. c.if-kind_at-eq-TEXT_UNIT.false (c.kind_at.ensures ∙ e))

@@ -3,8 +3,8 @@ use Prim.Native.Nat.{◌-◌}
 use Rattle.owners.proofs.Telling.{Left}
 use Rattle.owners.proofs.portions_of.Given as goal
 
-abbrev pub invariant-loop-rest : goal.invariant-loop-rest
-invariant-loop-rest l = Left l.s l.rows l.j l.left l.count
+abbrev pub invariant-loop-item : goal.invariant-loop-item
+invariant-loop-item l = Left l.s l.rows l.j l.left l.count
 
-abbrev pub decreases-loop-rest : goal.decreases-loop-rest
-decreases-loop-rest l = l.left.limit - l.left.at
+abbrev pub decreases-loop-item : goal.decreases-loop-item
+decreases-loop-item l = l.left.limit - l.left.at

@@ -1,13 +1,10 @@
 -- `parents::last_space` meets its contract. The loop's invariant: no space stands in what is passed.
 use mathlib.Core.Path.{◌≡◌}
-use Prim.Native.Nat.{◌-◌, ◌≤◌}
+use Prim.Native.Nat.{◌≤◌}
 use lib.Seq.{slice}
 use Rattle.contents.specs.Search.{absent}
 use Rattle.parents.specs.Parent.{shorter}
 use Rattle.parents.proofs.last_space.Given as goal
 
 abbrev pub invariant-loop-at : goal.invariant-loop-at
-invariant-loop-at l = (l.first ≤ l.at) × (l.at ≤ l.past) × (shorter (slice l.at l.past l.s) ≡ absent)
-
-abbrev pub decreases-loop-at : goal.decreases-loop-at
-decreases-loop-at l = l.at - l.first
+invariant-loop-at l = (l.first ≤ l.at) × (shorter (slice l.at l.past l.s) ≡ absent)

@@ -9,8 +9,9 @@ use Rattle.pieces.proofs.+are_pieces.Given as goal
 abbrev pub decreases-are_pieces : goal.decreases-are_pieces
 decreases-are_pieces l = l.r.room
 
-abbrev pub invariant-loop-code : goal.invariant-loop-code
-invariant-loop-code l = Fine l.s l.cur × (l.cur.room ≡ l.initial.cur.room) × (only_pieces l.piece l.pieces (tree_in l.s l.initial.cur) ≡ only_pieces l.piece l.pieces (tree_in l.s l.cur))
+abbrev pub invariant-loop-item : goal.invariant-loop-item
+invariant-loop-item l = Fine l.s l.cur × (l.cur.room ≡ l.initial.cur.room)
+    × (only_pieces l.piece l.pieces (tree_in l.s l.initial.cur) ≡ only_pieces l.piece l.pieces (tree_in l.s l.cur))
 
-abbrev pub decreases-loop-code : goal.decreases-loop-code
-decreases-loop-code l = l.cur.limit - l.cur.at
+abbrev pub decreases-loop-item : goal.decreases-loop-item
+decreases-loop-item l = l.cur.limit - l.cur.at

@@ -10,8 +10,9 @@ use Rattle.pieces.proofs.+joined_length.Given as goal
 abbrev pub decreases-joined_length : goal.decreases-joined_length
 decreases-joined_length l = l.r.room
 
-abbrev pub invariant-loop-code : goal.invariant-loop-code
-invariant-loop-code l = Fine l.s l.cur × (l.cur.room ≡ l.initial.cur.room) × (length (joined (tree_in l.s l.initial.cur)) ≡ l.n + length (joined (tree_in l.s l.cur)))
+abbrev pub invariant-loop-item : goal.invariant-loop-item
+invariant-loop-item l = Fine l.s l.cur × (l.cur.room ≡ l.initial.cur.room)
+    × (length (joined (tree_in l.s l.initial.cur)) ≡ l.n + length (joined (tree_in l.s l.cur)))
 
-abbrev pub decreases-loop-code : goal.decreases-loop-code
-decreases-loop-code l = l.cur.limit - l.cur.at
+abbrev pub decreases-loop-item : goal.decreases-loop-item
+decreases-loop-item l = l.cur.limit - l.cur.at

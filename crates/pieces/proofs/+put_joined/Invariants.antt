@@ -7,8 +7,8 @@ use Rattle.pieces.proofs.+put_joined.Given as goal
 abbrev pub decreases-put_joined : goal.decreases-put_joined
 decreases-put_joined l = l.r.room
 
-abbrev pub invariant-loop-code : goal.invariant-loop-code
-invariant-loop-code l = PutSoFar l.s l.initial.cur l.initial.out l.cur l.done l.out
+abbrev pub invariant-loop-item : goal.invariant-loop-item
+invariant-loop-item l = PutSoFar l.s l.initial.cur l.initial.out l.cur l.done l.out
 
-abbrev pub decreases-loop-code : goal.decreases-loop-code
-decreases-loop-code l = l.cur.limit - l.cur.at
+abbrev pub decreases-loop-item : goal.decreases-loop-item
+decreases-loop-item l = l.cur.limit - l.cur.at

@@ -5,7 +5,7 @@ use Rattle.pm1.specs.ByTable.{pages_among}
 use Rattle.pm1.proofs.count_pages.Given as goal
 
 abbrev pub invariant-loop-j : goal.invariant-loop-j
-invariant-loop-j l = (l.j ≤ l.elements) × (l.count ≤ l.j) × (l.count + pages_among l.table l.j (l.elements - l.j) ≡ pages_among l.table 0 l.elements)
-
-abbrev pub decreases-loop-j : goal.decreases-loop-j
-decreases-loop-j l = l.elements - l.j
+invariant-loop-j l = record {
+  few : l.count ≤ l.j;
+  counted : l.count + pages_among l.table l.j (l.elements - l.j) ≡ pages_among l.table 0 l.elements;
+}

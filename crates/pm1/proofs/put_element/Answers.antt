@@ -17,12 +17,12 @@ put_page-requires c =
     let a = c.args in
     let is : is_page (kind_at a.table.now a.element) (object_at a.table.now a.element) ≡ true =
     sym c.is_page.ensures ∙ c.if-not-is_page.false in
-    (room-one a.count _ _ _ is c.requires.inner_in_bounds, omega arith, omega arith)
+    (room-one a.count _ _ _ is c.requires.inner_in_bounds, omega arith)
 
 pub returns : goal.returns
 returns c =
     let a = c.args in
-    let v = c.verdict_of-verdict.ensures.0 in
+    let v = c.verdict_of-verdict.ensures in
     let is : is_page (kind_at a.table.now a.element) (object_at a.table.now a.element) ≡ true = sym
     c.is_page.ensures ∙ c.if-not-is_page.false in
     puts_one a.list.now a.count a.element _ _ _ _ is v c.put_page.ensures

@@ -9,4 +9,4 @@ pub bounds-list-at-2 : goal.bounds-list-at-2
 bounds-list-at-2 c = simp length-set (omega arith)
 
 pub returns : goal.returns
-returns c = rw (add-one (2 * c.args.k))
+returns c = rw (add-one (2 * c.args.k), c.into.ensures)

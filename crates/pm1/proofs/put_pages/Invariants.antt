@@ -3,8 +3,8 @@ use Prim.Native.Nat.{◌-◌}
 use Rattle.pm1.proofs.Going.{Going}
 use Rattle.pm1.proofs.put_pages.Given as goal
 
-abbrev pub invariant-loop-inner : goal.invariant-loop-inner
-invariant-loop-inner l = Going l.stream l.table l.initial.list l.list l.left l.element l.count
+abbrev pub invariant-loop-item : goal.invariant-loop-item
+invariant-loop-item l = Going l.stream l.table l.initial.list l.list l.left l.element l.count
 
-abbrev pub decreases-loop-inner : goal.decreases-loop-inner
-decreases-loop-inner l = l.left.limit - l.left.at
+abbrev pub decreases-loop-item : goal.decreases-loop-item
+decreases-loop-item l = l.left.limit - l.left.at

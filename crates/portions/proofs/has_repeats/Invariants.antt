@@ -1,7 +1,7 @@
 -- `portions::has_repeats` meets its contract. The loop's invariant: the values from k on have no repeat, and their tags are marked.
 use mathlib.Core.Path.{◌≡◌}
 use mathlib.Core.Bool.{false}
-use Prim.Native.Nat.{◌*◌, ◌≤◌}
+use Prim.Native.Nat.{◌*◌}
 use lib.ListN.{length}
 use lib.Seq.{slice}
 use Rattle.portions.specs.Portions.{repeats}
@@ -10,7 +10,5 @@ use Rattle.portions.proofs.Tags.{Marked}
 use Rattle.portions.proofs.has_repeats.Given as goal
 
 abbrev pub invariant-loop-k : goal.invariant-loop-k
-invariant-loop-k l = (l.k ≤ l.count) × (length l.marks ≡ 64) × (repeats (bounded l.s (slice (2 * l.k) (2 * l.count) l.bounds)) ≡ false) × Marked l.s l.bounds l.count l.k l.marks
-
-abbrev pub decreases-loop-k : goal.decreases-loop-k
-decreases-loop-k l = l.k
+invariant-loop-k l = (length l.marks ≡ 64)
+    × (repeats (bounded l.s (slice (2 * l.k) (2 * l.count) l.bounds)) ≡ false) × Marked l.s l.bounds l.count l.k l.marks

@@ -9,7 +9,7 @@ bounds-bounds-k-then-k-lt-MOST_PORTIONS c = simp length-set (omega arith)
 
 pub returns-then-k-lt-MOST_PORTIONS : goal.returns-then-k-lt-MOST_PORTIONS
 returns-then-k-lt-MOST_PORTIONS c =
-    let a = c.args in λ _. pair-stored a.bounds.now a.k a.first a.past (omega arith)
+    let a = c.args in λ _. pair-stored a.bounds.now a.k a.v.first a.v.past (omega arith)
 
 pub returns-else-k-lt-MOST_PORTIONS : goal.returns-else-k-lt-MOST_PORTIONS
 returns-else-k-lt-MOST_PORTIONS c = λ few. absurd (omega arith)

@@ -5,8 +5,8 @@ use lib.ListN.{length}
 use Rattle.portions.proofs.Reading.{Reads}
 use Rattle.portions.proofs.read_portions.Given as goal
 
-abbrev pub invariant-loop-code : goal.invariant-loop-code
-invariant-loop-code l = (length l.bounds ≡ length l.initial.bounds) × Reads l.s l.initial.left l.left l.count l.misspelt l.bounds
+abbrev pub invariant-loop-item : goal.invariant-loop-item
+invariant-loop-item l = (length l.bounds ≡ length l.initial.bounds) × Reads l.s l.initial.left l.left l.count l.misspelt l.bounds
 
-abbrev pub decreases-loop-code : goal.decreases-loop-code
-decreases-loop-code l = l.left.limit - l.left.at
+abbrev pub decreases-loop-item : goal.decreases-loop-item
+decreases-loop-item l = l.left.limit - l.left.at

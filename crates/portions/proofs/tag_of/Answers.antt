@@ -1,27 +1,19 @@
 -- `portions::tag_of` meets its contract: the tag so far, after what is left, is the tag of the whole.
-use mathlib.Core.Path.{◌≡◌, refl, sym, ◌∙◌}
+use mathlib.Core.Path.{refl, sym, ap, ◌∙◌}
 use native.Mathlib.Omega.{arith}
-use lib.Seq.{slice_empty}
-use Rattle.portions.specs.Tags.{tag_from}
-use Rattle.portions.proofs.Tags.{tag-more}
+use Rattle.std.proofs.lemmas.Slice.{between_is}
+use Rattle.portions.specs.Tags.{tag}
+use Rattle.portions.proofs.Tags.{tag-more, tag-end}
 use Rattle.portions.proofs.tag_of.Goals as goal
 
-pub loop-i-init : goal.loop-i-init
-loop-i-init c = (omega arith, omega arith, refl)
+pub loop-digit-init : goal.loop-digit-init
+loop-digit-init c = (omega arith, refl)
 
-pub overflow_add-r : goal.overflow_add-r
-overflow_add-r c = omega (arith, c.digit.ensures.1)
-
-pub loop-i-preserved : goal.loop-i-preserved
-loop-i-preserved c =
-    let a = c.args in
-    let l = c.loop-i in
-    (omega arith, omega arith, l.invariant.2 ∙ tag-more a.s.now l.i a.v.past l.r (omega arith) (omega arith) ∙ rw c.digit.ensures.0)
+pub loop-digit-preserved : goal.loop-digit-preserved
+loop-digit-preserved c = (omega arith, c.loop-digit.invariant.1 ∙ tag-more _ c.loop-digit.digit-index c.loop-digit.r c.loop-digit-test.true)
 
 pub returns : goal.returns
-unfolding tag_from
 returns c =
     let a = c.args in
-    let l = c.loop-i in
-    let e : l.i ≡ a.v.past = omega arith in
-    (sym (l.invariant.2 ∙ rw (e, slice_empty a.v.past a.s.now)), l.invariant.1)
+    let l = c.loop-digit in
+    (sym (ap tag (sym (between_is a.s.now a.v.first a.v.past)) ∙ l.invariant.1 ∙ tag-end _ l.digit-index l.r c.loop-digit-test.false), l.invariant.0)

@@ -1,4 +1,4 @@
--- `reading::list_side` meets its contract: the elements are taken in turn. The measure is how many are left.
+-- `reading::list_side` meets its contract: the elements are taken in turn.
 use Rattle.reading.proofs.Turning.{turning-all, turning-none, turning-more, room-for-element}
 use Rattle.reading.proofs.list_side.Goals as goal
 

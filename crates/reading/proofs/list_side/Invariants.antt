@@ -1,10 +1,6 @@
--- `reading::list_side` meets its contract: the elements are taken in turn. The measure is how many are left.
-use Prim.Native.Nat.{◌-◌}
+-- `reading::list_side` meets its contract: the elements are taken in turn.
 use Rattle.reading.proofs.Turning.{Turning}
 use Rattle.reading.proofs.list_side.Given as goal
 
 abbrev pub invariant-loop-element : goal.invariant-loop-element
 invariant-loop-element l = Turning l.side l.s l.rows l.n l.initial.flat l.flat l.element l.count
-
-abbrev pub decreases-loop-element : goal.decreases-loop-element
-decreases-loop-element l = l.n - l.element

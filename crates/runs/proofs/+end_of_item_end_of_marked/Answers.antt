@@ -19,7 +19,8 @@ use Rattle.runs.proofs.+end_of_item_end_of_marked.Goals.{end_of_marked-After-pas
 pub end_of_item-end_of_marked-requires : goal.end_of_item-end_of_marked-requires
 end_of_item-end_of_marked-requires t c =
     let a = c.args in
-    (omega arith, (c.requires.room_nonzero.1, c.requires.room_nonzero.2, subst Whole (marked-run a.room a.s.now a.h c.requires.code_value.0 c.if-h.true) c.requires.code_value.1))
+    let e = marked-run a.room a.s.now a.h c.requires.code_value.0 c.if-h.true in
+    (omega arith, (c.requires.room_nonzero.1, c.requires.room_nonzero.2, subst Whole e c.requires.code_value.1))
 
 pub end_of_item-returns-then-h : goal.end_of_item-returns-then-h
 end_of_item-returns-then-h t c =
@@ -51,22 +52,24 @@ pub end_of_marked-overflow_add-result : goal.end_of_marked-overflow_add-result
 end_of_marked-overflow_add-result t c =
     let a = c.args in
     let l = c.loop-h in
-    omega (arith, mark-ok a.s.now l.at a.limit a.room true (read t (goal.at.end_of_marked-overflow_add-result t c).After-passed_head ClosingMark c.in-ClosingMark.is), l.invariant.0.inside)
+    let e = read t (goal.at.end_of_marked-overflow_add-result t c).After-passed_head ClosingMark c.in-ClosingMark.is in
+    omega (arith, mark-ok a.s.now l.at a.limit a.room true e, l.invariant.0.inside)
 
 pub end_of_marked-returns-in-ClosingMark : goal.end_of_marked-returns-in-ClosingMark
 end_of_marked-returns-in-ClosingMark t c =
     let a = c.args in
     let s = a.s.now in
     let l = c.loop-h in
+    let e = read t (goal.at.end_of_marked-returns-in-ClosingMark t c).After-passed_head ClosingMark c.in-ClosingMark.is in
     l.invariant.1
-    ∙ ap (λ (w : Walked). w.how)
-    (at_head a.room s l.at a.limit true (marked-before s _ l.invariant.0 refl) ClosingMark (read t (goal.at.end_of_marked-returns-in-ClosingMark t c).After-passed_head ClosingMark c.in-ClosingMark.is))
+    ∙ ap (λ (w : Walked). w.how) (at_head a.room s l.at a.limit true (marked-before s _ l.invariant.0 refl) ClosingMark e)
 
 pub end_of_marked-returns-in-Refusal : goal.end_of_marked-returns-in-Refusal
 end_of_marked-returns-in-Refusal t c =
     let s = c.args.s.now in
     let l = c.loop-h in
-    absurd (subst Passed (read t (goal.at.end_of_marked-returns-in-Refusal t c).After-passed_head (Refusal _ _) c.in-Refusal.is) (passed s _ l.invariant.0 (marked-before s _ l.invariant.0 refl)))
+    let e = read t (goal.at.end_of_marked-returns-in-Refusal t c).After-passed_head (Refusal _ _) c.in-Refusal.is in
+    absurd (subst Passed e (passed s _ l.invariant.0 (marked-before s _ l.invariant.0 refl)))
 
 pub end_of_marked-end_of_item-at-requires : goal.end_of_marked-end_of_item-at-requires
 end_of_marked-end_of_item-at-requires t c =

@@ -7,10 +7,10 @@ use native.Mathlib.Omega.{arith}
 use borrow.Author.Tests.{ne_eqb}
 use lib.Dec.{eqb}
 use Rattle.octets.specs.Walk.{Items, no_items}
-use Rattle.octets.proofs.Turns.{tree-ends, tree-closes, tree-refuses}
+use Rattle.octets.proofs.Turns.{tree-ends}
 use Rattle.runs.specs.declared.Run.{Run}
 use Rattle.runs.specs.Runs.{items_of, tops}
-use Rattle.runs.proofs.Meetings.{passed, some_item}
+use Rattle.runs.proofs.Meetings.{passed, some_item, none-met}
 use Rattle.runs.proofs.is_over.Goals as goal
 use Rattle.runs.proofs.is_over.Goals.{Else-at-limit}
 
@@ -41,18 +41,8 @@ returns-in-Item c =
     sym (ne_eqb (tops (items_of s r)) 0
     (some_item s r c.requires (before-limit (goal.at.returns-in-Item c).Else-at-limit) _ (sym c.passed_head.ensures ∙ c.in-Item.is)))
 
-pub returns-in-ClosingMark : goal.returns-in-ClosingMark
-returns-in-ClosingMark c =
+pub returns-in_default : goal.returns-in_default
+returns-in_default c =
     let a = c.args in
-    let r = a.r in
-    no-item a.s.now r
-    (tree-closes r.room a.s.now r.at r.limit r.marked (before-limit (goal.at.returns-in-ClosingMark c).Else-at-limit) (sym c.passed_head.ensures
-    ∙ c.in-ClosingMark.is))
-
-pub returns-in-Refusal : goal.returns-in-Refusal
-returns-in-Refusal c =
-    let a = c.args in
-    let r = a.r in
-    no-item a.s.now r
-    (tree-refuses r.room a.s.now r.at r.limit r.marked (before-limit (goal.at.returns-in-Refusal c).Else-at-limit) _ _ (sym c.passed_head.ensures
-    ∙ c.in-Refusal.is))
+    let l = before-limit (goal.at.returns-in_default c).Else-at-limit in
+    no-item a.s.now a.r (none-met a.s.now a.r l _ (sym c.passed_head.ensures) c.in_default.not-Item)

@@ -9,10 +9,10 @@ use Rattle.headers.specs.declared.Header.{Header}
 use Rattle.headers.specs.declared.Head.TheVariants.{Item}
 use Rattle.headers.specs.Head.{octet_at, head_at}
 use Rattle.octets.specs.Walk.{past_of}
-use Rattle.octets.proofs.Turns.{tree-ends, tree-closes, tree-refuses}
+use Rattle.octets.proofs.Turns.{tree-ends}
 use Rattle.runs.specs.declared.Run.{Run}
 use Rattle.runs.specs.Runs.{Fine}
-use Rattle.runs.proofs.Meetings.{passed, lies, definite-ends, marked-value, marked-inside, marked-whole, marked-end, meets}
+use Rattle.runs.proofs.Meetings.{passed, lies, definite-ends, marked-value, marked-inside, marked-whole, marked-end, meets, none-met}
 use Rattle.runs.proofs.meet.Goals as goal
 use Rattle.runs.proofs.meet.Goals.{In-Item}
 
@@ -35,7 +35,7 @@ read : (c : In-Item) → head_at (stream c) (its_run c).at (its_run c).limit (it
 read c = sym c.passed_head.ensures ∙ c.in-Item.is
 
 octet_small : (c : In-Item) → octet_at (stream c) (its_run c).at < 256
-octet_small c = omega (arith, c.shared_slice_known-1.given (its_run c).at)
+octet_small c = omega (arith, c.type_inv.s (its_run c).at)
 
 pub returns-then-at-limit : goal.returns-then-at-limit
 returns-then-at-limit c =
@@ -89,24 +89,15 @@ inside_of-requires c =
     let o = lies (stream here) (its_run here) (its-fine here) (before-limit here) (header here) (read here) in
     (o.deep, o.mark)
 
-pub returns-in-ClosingMark : goal.returns-in-ClosingMark
-returns-in-ClosingMark c =
+pub returns-in_default : goal.returns-in_default
+returns-in_default c =
     let a = c.args in
-    let r = a.r in
     let o = c.requires.order in
-    tree-closes r.room a.s.now r.at r.limit r.marked (omega arith) (sym c.passed_head.ensures ∙ c.in-ClosingMark.is)
+    none-met a.s.now a.r (omega arith) _ (sym c.passed_head.ensures) c.in_default.not-Item
 
-pub returns-in-Refusal : goal.returns-in-Refusal
-returns-in-Refusal c =
-    let a = c.args in
-    let r = a.r in
-    let o = c.requires.order in
-    tree-refuses r.room a.s.now r.at r.limit r.marked (omega arith) _ _ (sym c.passed_head.ensures
-    ∙ c.in-Refusal.is)
-
-pub returns-else-h : goal.returns-else-h
-returns-else-h c =
-    let here = (goal.at.returns-else-h c).In-Item in
+pub returns : goal.returns
+returns c =
+    let here = (goal.at.returns c).In-Item in
     let m : (header here).marked ≡ false = c.if-h.false in
     let v = definite-ends (stream here) (its_run here) (its-fine here) (before-limit here) (header here) (read here) m in
     meets (stream here) (its_run here) (its-fine here) (before-limit here) (header here) (read here) (header here).bound v (octet_small here)

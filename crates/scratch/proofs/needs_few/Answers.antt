@@ -5,7 +5,7 @@ use mathlib.Core.Bool.{Bool, true, false, cond}
 use mathlib.Core.List.{List}
 use Prim.Native.Nat.{ℕ, ◌≤◌}
 use native.Mathlib.Omega.{arith}
-use Rattle.octets.specs.declared.Outcome.{Outcome}
+use Rattle.octets.specs.Told.{Outcome}
 use Rattle.letters.specs.Lent.{rows_needed}
 use Rattle.answers.specs.Asking.{Sized}
 use Rattle.scratch.proofs.Arrays.{walked_whole}
@@ -17,14 +17,15 @@ enough s true says = says refl
 enough s false says = omega arith
 
 pub is_few-requires : goal.is_few-requires
-is_few-requires c = walked_whole _ _ _ (c.requires ∙ c.in-Ended.is)
+is_few-requires c = walked_whole _ _ _ (c.requires ∙ c.in-Ok.is)
 
-pub returns-in-Ended : goal.returns-in-Ended
-returns-in-Ended c =
+pub returns-in-Ok : goal.returns-in-Ok
+returns-in-Ok c =
     let s = c.args.stream.now in
     let few = c.is_few.result in
-    subst (λ (o : Outcome). Sized s o (cond few 512 4096)) (sym c.in-Ended.is) (record { outcome = c.requires ∙ c.in-Ended.is; enough = enough s few c.is_few.ensures })
+    subst (λ (o : Outcome). Sized s o (cond few 512 4096)) (sym c.in-Ok.is)
+    (record { outcome = c.requires ∙ c.in-Ok.is; enough = enough s few c.is_few.ensures })
 
-pub returns-in-Refused : goal.returns-in-Refused
-returns-in-Refused c =
-    subst (λ (o : Outcome). Sized c.args.stream.now o 512) (sym c.in-Refused.is) (record { outcome = c.requires ∙ c.in-Refused.is; enough = omega arith })
+pub returns-in-Err : goal.returns-in-Err
+returns-in-Err c =
+    subst (λ (o : Outcome). Sized c.args.stream.now o 512) (sym c.in-Err.is) (record { outcome = c.requires ∙ c.in-Err.is; enough = omega arith })

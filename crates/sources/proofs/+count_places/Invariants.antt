@@ -10,8 +10,9 @@ use Rattle.sources.proofs.+count_places.Given as goal
 abbrev pub decreases-count_places : goal.decreases-count_places
 decreases-count_places l = l.r.room
 
-abbrev pub invariant-loop-code : goal.invariant-loop-code
-invariant-loop-code l = Fine l.s l.cur × (l.cur.room ≡ l.initial.cur.room) × (length (places_of (items_of l.s l.initial.cur)) ≡ l.n + length (places_of (items_of l.s l.cur)))
+abbrev pub invariant-loop-item : goal.invariant-loop-item
+invariant-loop-item l = Fine l.s l.cur × (l.cur.room ≡ l.initial.cur.room)
+    × (length (places_of (items_of l.s l.initial.cur)) ≡ l.n + length (places_of (items_of l.s l.cur)))
 
-abbrev pub decreases-loop-code : goal.decreases-loop-code
-decreases-loop-code l = l.cur.limit - l.cur.at
+abbrev pub decreases-loop-item : goal.decreases-loop-item
+decreases-loop-item l = l.cur.limit - l.cur.at

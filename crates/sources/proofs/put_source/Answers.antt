@@ -1,19 +1,9 @@
--- `sources::put_source` meets its contract: three stores.
-use mathlib.Core.Path.{◌≡◌}
-use Prim.Native.Nat.{suc, ◌+◌}
+-- `sources::put_source` meets its contract: the three numbers are set in their place.
 use native.Mathlib.Omega.{arith}
-use native.Mathlib.Numerals.{add-one}
-use lib.ListN.{length-set}
+use Rattle.laws.proofs.Parts.{part-set}
 use Rattle.sources.proofs.put_source.Goals as goal
-
-pub bounds-list-at-2 : goal.bounds-list-at-2
-bounds-list-at-2 c = simp length-set (omega arith)
-
-pub bounds-list-at-3 : goal.bounds-list-at-3
-bounds-list-at-3 c = simp length-set (omega arith)
 
 pub returns : goal.returns
 returns c =
-    let at = c.args.at in
-    let two : at + 2 ≡ suc (suc at) = omega arith in
-    rw (add-one at, two)
+    let a = c.args in
+    part-set a.at _ a.list.now _ _ c.copy_from_slice.ensures.after (omega arith) (omega arith)

@@ -11,23 +11,23 @@ pub loop-k-init : goal.loop-k-init
 loop-k-init c =
     let a = c.args in
     let z : a.count - 0 ≡ a.count = omega arith in
-    (omega arith, refl, ap (λ (n : ℕ). sets a.lines.now 0 (lines_left a.numbers.now a.count 0 n 0)) z)
+    (refl, ap (λ (n : ℕ). sets a.lines.now 0 (lines_left a.numbers.now a.count 0 n 0)) z)
 
 pub put_line-requires : goal.put_line-requires
-put_line-requires c = let l = c.loop-k in omega (arith, l.invariant.1)
+put_line-requires c = let l = c.loop-k in omega (arith, l.invariant.0)
 
 pub loop-k-preserved : goal.loop-k-preserved
 loop-k-preserved c =
     let a = c.args in
     let l = c.loop-k in
     let below = c.loop-k-test.true in
-    (omega arith, c.put_line.auto.lines ∙ l.invariant.1, left_step a.numbers.now a.count l.k l.first l.lines _ below c.put_line.ensures ∙ l.invariant.2)
+    (c.put_line.auto.lines ∙ l.invariant.0, left_step a.numbers.now a.count l.k l.first l.lines _ below c.put_line.ensures ∙ l.invariant.1)
 
 pub shape_of-lines : goal.shape_of-lines
-shape_of-lines c = c.loop-k.invariant.1
+shape_of-lines c = c.loop-k.invariant.0
 
 pub returns : goal.returns
 returns c =
     let a = c.args in
     let l = c.loop-k in
-    ap (sets l.lines (5 * l.k)) (sym (left-none a.numbers.now a.count l.k l.first (omega arith))) ∙ l.invariant.2
+    ap (sets l.lines (5 * l.k)) (sym (left-none a.numbers.now a.count l.k l.first (omega arith))) ∙ l.invariant.1

@@ -53,7 +53,10 @@ returns-then-room-found c =
 pub put_children-requires : goal.put_children-requires
 put_children-requires c =
     let l = accepted-judged c.requires.accepts.ended c.requires.letter_rows in
-    let counted = c.count_children-found.ensures in record { count_le_most_elements = (l.few, omega (arith, c.fill.auto.table)); count_in_bounds = omega (arith, counted, c.if-room-found.false, c.requires.room_in_bounds) }
+    let counted = c.count_children-found.ensures in record {
+      count_le_most_elements = (l.few, omega (arith, c.fill.auto.table));
+      count_in_bounds = omega (arith, counted, c.if-room-found.false, c.requires.room_in_bounds);
+    }
 
 pub overflow_cast-result : goal.overflow_cast-result
 overflow_cast-result c =

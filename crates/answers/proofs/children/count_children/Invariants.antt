@@ -6,7 +6,5 @@ use Rattle.answers.specs.Filling.{rows_with}
 use Rattle.answers.proofs.children.count_children.Given as goal
 
 abbrev pub invariant-loop-j : goal.invariant-loop-j
-invariant-loop-j l = (l.j ≤ l.count) × (l.found ≤ l.j) × (length (rows_with l.table l.row 0 l.count) ≡ l.found + length (rows_with l.table l.row l.j (l.count - l.j)))
-
-abbrev pub decreases-loop-j : goal.decreases-loop-j
-decreases-loop-j l = l.count - l.j
+invariant-loop-j l = (l.j ≤ l.count) × (l.found ≤ l.j) × (length (rows_with l.table l.row 0 l.count) ≡ l.found
+    + length (rows_with l.table l.row l.j (l.count - l.j)))

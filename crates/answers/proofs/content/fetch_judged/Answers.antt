@@ -8,7 +8,10 @@ use Rattle.answers.proofs.content.fetch_judged.Goals as goal
 pub content_at-requires : goal.content_at-requires
 content_at-requires c =
     let l = accepted-judged c.requires.accepts.ended c.requires.letter_rows in
-    record { fine = stream-fine c.args.stream.now _ _ c.requires.accepts.ended; element_bound = (omega (arith, l.few), (c.args.count, c.requires.letter_rows, omega arith)) }
+    record {
+      fine = stream-fine c.args.stream.now _ _ c.requires.accepts.ended;
+      element_bound = (omega (arith, l.few), (c.args.count, c.requires.letter_rows, omega arith));
+    }
 
 pub returns-then-element-count : goal.returns-then-element-count
 returns-then-element-count c =

@@ -6,7 +6,7 @@ use Rattle.contents.proofs.Firsts.{met}
 use Rattle.answers.specs.Dating.{DateTells}
 use Rattle.answers.proofs.Dating.{met_some, found-narrow, date-told}
 use Rattle.answers.proofs.date.date_of_letter.Goals as goal
-use Rattle.answers.proofs.date.date_of_letter.Goals.{After-meet, In-Item}
+use Rattle.answers.proofs.date.date_of_letter.Goals.{After-meet, In-Some}
 
 pub meet-requires : goal.meet-requires
 meet-requires c = subst (Fine c.args.stream.now) (sym c.whole_stream.ensures) c.requires.0
@@ -18,25 +18,25 @@ whole-met c =
     subst (λ (r : Run). Meets c.args.stream.now r c.meet.result) c.whole_stream.ensures c.meet.ensures
 
 -- the profile
-meeting : (c : In-Item) →
+meeting : (c : In-Some) →
     let s = c.args.stream.now in
-    Meeting s (whole_stream s) c.in-Item.code c.in-Item.first c.in-Item.past c.in-Item.inner c.in-Item.rest
+    Meeting s (whole_stream s) c.in-Some.item.code c.in-Some.item.first c.in-Some.item.past c.in-Some.item.inner c.in-Some.item.rest
 meeting c =
     let s = c.args.stream.now in
-    met s (whole_stream s) (whole-met (goal.at.In-Item c).After-meet) c.in-Item.is
+    met s (whole_stream s) (whole-met (goal.at.In-Some c).After-meet) c.in-Some.is
 
 pub date_in-requires : goal.date_in-requires
-date_in-requires c = (meeting (goal.at.date_in-requires c).In-Item).inner_fine
+date_in-requires c = (meeting (goal.at.date_in-requires c).In-Some).inner_fine
 
 pub dated_as-requires : goal.dated_as-requires
-dated_as-requires c = found-narrow c.date_in.ensures c.requires.1
+dated_as-requires c = found-narrow _ c.date_in.ensures c.requires.1
 
-pub returns-in-End : goal.returns-in-End
-returns-in-End c edition zero =
+pub returns-in-None : goal.returns-in-None
+returns-in-None c edition zero =
     let s = c.args.stream.now in
-    absurd (met_some edition s zero (met s (whole_stream s) (whole-met (goal.at.returns-in-End c).After-meet) c.in-End.is))
+    absurd (met_some edition s zero (met s (whole_stream s) (whole-met (goal.at.returns-in-None c).After-meet) c.in-None.is))
 
-pub returns-in-Item : goal.returns-in-Item
-returns-in-Item c edition zero =
+pub returns-in-Some : goal.returns-in-Some
+returns-in-Some c edition zero =
     let s = c.args.stream.now in
-    subst (DateTells edition s) (sym c.dated_as.ensures) (date-told edition s zero (meeting (goal.at.returns-in-Item c).In-Item) c.date_in.ensures)
+    subst (DateTells edition s) (sym c.dated_as.ensures) (date-told edition s zero (meeting (goal.at.returns-in-Some c).In-Some) c.date_in.ensures)

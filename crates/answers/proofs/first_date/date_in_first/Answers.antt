@@ -8,33 +8,33 @@ use Rattle.answers.specs.Dating.{FirstTells}
 use Rattle.answers.proofs.Dating.{found-narrow}
 use Rattle.answers.proofs.FirstDating.{early-small, first-refused, first-dated}
 use Rattle.answers.proofs.first_date.date_in_first.Goals as goal
-use Rattle.answers.proofs.first_date.date_in_first.Goals.{After-early-number}
+use Rattle.answers.proofs.first_date.date_in_first.Goals.{After-shape_of-shape}
 
--- rules 10 and 11
-early-is : (c : After-early-number) →
-    let a = c.args in c.early-number.result ≡ early_refusal 0 a.code (shape_by a.edition a.code).octet
-early-is c =
+-- rules 10 and 11, by the octet of the shape that was found
+rules : (c : After-shape_of-shape) →
+    let a = c.args in early_refusal 0 a.code c.shape_of-shape.result.octet ≡ early_refusal 0 a.code (shape_by a.edition a.code).octet
+rules c =
     let a = c.args in
-    c.early-number.ensures ∙ ap (λ (x : Slots). early_refusal 0 a.code x.octet) c.shape_of-shape.ensures
-    ∙ ap (early_refusal 0 a.code) (octet-same (shape_by a.edition a.code))
+    ap (λ (x : Slots). early_refusal 0 a.code x.octet) c.shape_of-shape.ensures ∙ ap (early_refusal 0 a.code) (octet-same (shape_by a.edition a.code))
 
 pub overflow_cast-number : goal.overflow_cast-number
 overflow_cast-number c =
     let a = c.args in
-    omega (arith, early-is (goal.at.overflow_cast-number c).After-early-number, early-small 0 a.code (shape_by a.edition a.code).octet)
+    omega (arith, c.in-Err.ensures.refusal, early-small 0 a.code c.shape_of-shape.result.octet)
 
-pub returns-then-number-ne0 : goal.returns-then-number-ne0
-returns-then-number-ne0 c =
+pub returns-in-Err : goal.returns-in-Err
+returns-in-Err c =
     let a = c.args in
     subst (FirstTells a.edition a.stream.now) (sym c.refused_date.ensures)
-    (first-refused a.edition a.stream.now c.requires.1 c.requires.0 _ (early-is (goal.at.returns-then-number-ne0 c).After-early-number) c.if-number-ne0.true)
+    (first-refused a.edition a.stream.now c.requires.1 c.requires.0 _
+    (c.in-Err.ensures.refusal ∙ rules (goal.at.returns-in-Err c).After-shape_of-shape) c.in-Err.ensures.there)
 
 pub dated_as-requires : goal.dated_as-requires
-dated_as-requires c = found-narrow c.date_in.ensures c.requires.1
+dated_as-requires c = found-narrow _ c.date_in.ensures c.requires.1
 
-pub returns : goal.returns
-returns c =
+pub returns-in-Ok : goal.returns-in-Ok
+returns-in-Ok c =
     let a = c.args in
-    let passed = sym (early-is (goal.at.returns c).After-early-number) ∙ c.if-number-ne0.false in
+    let passed = sym (rules (goal.at.returns-in-Ok c).After-shape_of-shape) ∙ c.in-Ok.ensures in
     subst (FirstTells a.edition a.stream.now) (sym c.dated_as.ensures)
-    (first-dated a.edition a.stream.now c.requires.1 c.requires.0 passed c.date_in.ensures)
+    (first-dated a.edition a.stream.now c.requires.1 c.requires.0 passed _ c.date_in.ensures)

@@ -11,13 +11,13 @@ pub out_of_order-requires : goal.out_of_order-requires
 out_of_order-requires c =
     (c.requires.letter_rows.holds.identifiers.in_table, stream-within c.args.stream.now _ c.requires.by_index.0 c.requires.by_index.1)
 
-pub returns-in-Nowhere : goal.returns-in-Nowhere
-returns-in-Nowhere c =
+pub returns-in-None : goal.returns-in-None
+returns-in-None c =
     let fault-in = c.fault_in in
-    none_found c.requires.letter_rows c.requires.by_index.1 c.args.class fault-in.result fault-in.ensures c.in-Nowhere.is
+    none_found c.requires.letter_rows c.requires.by_index.1 c.args.class fault-in.result fault-in.ensures c.in-None.is
 
-pub returns-in-At : goal.returns-in-At
-returns-in-At c =
+pub returns-in-Some : goal.returns-in-Some
+returns-in-Some c =
     let fault-in = c.fault_in in
     c.out_of_order.ensures
-    ∙ fault-found c.requires.letter_rows c.requires.by_index.1 c.args.class fault-in.result c.in-At.element fault-in.ensures c.in-At.is
+    ∙ fault-found c.requires.letter_rows c.requires.by_index.1 c.args.class fault-in.result c.in-Some.element fault-in.ensures c.in-Some.is

@@ -15,7 +15,11 @@ returns-then-lent-elements c =
 pub list_matches-matches-requires : goal.list_matches-matches-requires
 list_matches-matches-requires c =
     let l = accepted-judged c.requires.accepts.ended c.requires.letter_rows in
-    record { letter_rows = (c.args.edition, c.requires.letter_rows); both_filed = c.requires.both_filed; n_in_bounds = omega (arith, c.requires.stream_in_bounds, l.held.holds.counted, l.needed) }
+    record {
+      letter_rows = (c.args.edition, c.requires.letter_rows);
+      both_filed = c.requires.both_filed;
+      n_in_bounds = omega (arith, c.requires.stream_in_bounds, l.held.holds.counted, l.needed);
+    }
 
 pub overflow_cast-result : goal.overflow_cast-result
 overflow_cast-result c =

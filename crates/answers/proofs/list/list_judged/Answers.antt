@@ -10,7 +10,12 @@ use Rattle.answers.proofs.Listing.{finished-rows, lists-finished}
 use Rattle.answers.proofs.list.list_judged.Goals as goal
 
 pub find_matches-listed-requires : goal.find_matches-listed-requires
-find_matches-listed-requires c = record { accepts = c.requires.accepts; letter_rows = c.requires.letter_rows; both_filed = c.requires.both_filed; stream_in_bounds = c.requires.stream_in_bounds }
+find_matches-listed-requires c = record {
+  accepts = c.requires.accepts;
+  letter_rows = c.requires.letter_rows;
+  both_filed = c.requires.both_filed;
+  stream_in_bounds = c.requires.stream_in_bounds;
+}
 
 pub finish-requires : goal.finish-requires
 finish-requires c =

@@ -8,13 +8,20 @@ use Rattle.answers.proofs.sourcing.sources_judged.Goals as goal
 pub list_matches-lines-requires : goal.list_matches-lines-requires
 list_matches-lines-requires c =
     let l = accepted-judged c.requires.accepts.ended c.requires.letter_rows in
-    record { letter_rows = (c.args.edition, c.requires.letter_rows); both_filed = c.requires.both_filed; n_in_bounds = omega (arith, c.requires.stream_in_bounds, l.needed) }
+    record {
+      letter_rows = (c.args.edition, c.requires.letter_rows);
+      both_filed = c.requires.both_filed;
+      n_in_bounds = omega (arith, c.requires.stream_in_bounds, l.needed);
+    }
 
 pub count_sources-total-requires : goal.count_sources-total-requires
 count_sources-total-requires c =
     let l = accepted-judged c.requires.accepts.ended c.requires.letter_rows in
     let lists = c.list_matches-lines.ensures c.args.edition l.held in
-    record { fine = (stream-fine c.args.stream.now c.requires.accepts.at c.requires.accepts.headers c.requires.accepts.ended, l.held); lines_listed = all_listed l c.args.side lists }
+    record {
+      fine = (stream-fine c.args.stream.now c.requires.accepts.at c.requires.accepts.headers c.requires.accepts.ended, l.held);
+      lines_listed = all_listed l c.args.side lists;
+    }
 
 pub returns-then-list-total : goal.returns-then-list-total
 returns-then-list-total c =
@@ -28,7 +35,11 @@ put_sources-requires c =
     let lists = c.list_matches-lines.ensures c.args.edition l.held in
     let fine = stream-fine c.args.stream.now c.requires.accepts.at c.requires.accepts.headers c.requires.accepts.ended in
     let room = c.if-list-total.false in
-    record { fine = (fine, l.held, l.within_limit); lines_listed = all_listed l c.args.side lists; lines_in_bounds = omega (arith, room, c.count_sources-total.ensures) }
+    record {
+      fine = (fine, l.held, l.within_limit);
+      lines_listed = all_listed l c.args.side lists;
+      lines_in_bounds = omega (arith, room, c.count_sources-total.ensures);
+    }
 
 pub overflow_cast-result : goal.overflow_cast-result
 overflow_cast-result c =

@@ -8,7 +8,11 @@ loop-j-init c = let a = c.args in filling-all a.s.now a.rows.now a.count a.table
 
 pub put_row-requires : goal.put_row-requires
 put_row-requires c =
-    record { letter_rows = c.requires.letter_rows; filed = c.requires.filed; j_lt_count = (c.loop-j-test.true, c.requires.count_le_most_elements.0, omega (arith, c.requires.count_le_most_elements.1, c.loop-j.invariant.kept)) }
+    let (few, room) = c.requires.count_le_most_elements in record {
+      letter_rows = c.requires.letter_rows;
+      filed = c.requires.filed;
+      j_lt_count = (c.loop-j-test.true, few, omega (arith, room, c.loop-j.invariant.kept));
+    }
 
 pub loop-j-preserved : goal.loop-j-preserved
 loop-j-preserved c =

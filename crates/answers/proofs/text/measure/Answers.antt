@@ -1,5 +1,5 @@
 -- `answers::text::measure` meets its contract: what is counted, and what is left, is all.
-use mathlib.Core.Path.{◌≡◌, ap, ◌∙◌}
+use mathlib.Core.Path.{◌≡◌, ap}
 use Prim.Native.Nat.{ℕ, ◌-◌}
 use native.Mathlib.Omega.{arith}
 use lib.ListN.{length}
@@ -23,7 +23,7 @@ pub overflow_add-total : goal.overflow_add-total
 overflow_add-total c =
     let a = c.args in
     let l = c.loop-k in
-    let own = c.text_length-total.ensures ∙ ap (λ (u : ℕ). length (text_in a.edition a.stream.now u)) c.wide-unit.ensures in
+    let own = c.text_length-total.ensures in
     let left = size-left (text_in a.edition a.stream.now) a.numbers.now l.k a.lines c.loop-k-test.true in
     omega (arith, own, left, l.invariant.1, c.requires.listing.short)
 
@@ -31,7 +31,7 @@ pub loop-k-preserved : goal.loop-k-preserved
 loop-k-preserved c =
     let a = c.args in
     let l = c.loop-k in
-    let own = c.text_length-total.ensures ∙ ap (λ (u : ℕ). length (text_in a.edition a.stream.now u)) c.wide-unit.ensures in
+    let own = c.text_length-total.ensures in
     let left = size-left (text_in a.edition a.stream.now) a.numbers.now l.k a.lines c.loop-k-test.true in
     (omega arith, omega (arith, own, left, l.invariant.1))
 

@@ -10,6 +10,3 @@ use Rattle.answers.proofs.text.measure.Given as goal
 abbrev pub invariant-loop-k : goal.invariant-loop-k
 invariant-loop-k l = (l.k ≤ l.lines) × (l.total + length (texts_of (text_in l.edition l.stream) (records_from l.numbers l.k (l.lines - l.k))) ≡ length
     (texts_of (text_in l.edition l.stream) (records_from l.numbers 0 l.lines)))
-
-abbrev pub decreases-loop-k : goal.decreases-loop-k
-decreases-loop-k l = l.lines - l.k

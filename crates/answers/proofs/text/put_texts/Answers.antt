@@ -1,10 +1,8 @@
 -- `answers::text::put_texts` meets its contract. The loop's invariant is `PutSoFar`.
-use mathlib.Core.Path.{ap, ◌∙◌}
-use Prim.Native.Nat.{ℕ, ◌≤◌}
+use Prim.Native.Nat.{◌≤◌}
 use native.Mathlib.Omega.{arith}
-use mathlib.Core.List.{◌++◌}
-use lib.ListN.{length, drop}
-use Rattle.pieces.proofs.Putting.{part_from, part_length}
+use lib.ListN.{length}
+use Rattle.pieces.proofs.Putting.{part_length}
 use Rattle.text_lines.proofs.Putting.{none-put, all-put, room-left, end-within, more-put}
 use Rattle.answers.specs.Text.{text_in}
 use Rattle.answers.proofs.text.put_texts.Goals as goal
@@ -39,12 +37,11 @@ put_text-done-requires c =
     let a = c.args in
     let l = c.loop-k in
     let below = c.loop-k-test.true in
-    let same = ap (λ (u : ℕ). length (text_in a.edition a.stream.now u)) c.wide-unit.ensures in record {
+    record {
       accepts = c.requires.accepts;
       letter_rows = c.requires.letter_rows;
       unit_in_bounds = omega (
         arith,
-        same,
         room-left (text_in a.edition a.stream.now) a.numbers.now a.lines a.out.now l.invariant below c.requires.lines_in_bounds,
         part_length l.out l.done,
       );
@@ -55,12 +52,10 @@ overflow_add-done c =
     let a = c.args in
     let l = c.loop-k in
     let below = c.loop-k-test.true in
-    let same = ap (λ (u : ℕ). length (text_in a.edition a.stream.now u)) c.wide-unit.ensures in
     let own = c.put_text-done.ensures.value in
     omega (
       arith,
       own,
-      same,
       end-within (text_in a.edition a.stream.now) a.numbers.now a.lines a.out.now l.invariant below,
       c.requires.listing.short,
     )
@@ -70,12 +65,10 @@ overflow_cast-numbers c =
     let a = c.args in
     let l = c.loop-k in
     let below = c.loop-k-test.true in
-    let same = ap (λ (u : ℕ). length (text_in a.edition a.stream.now u)) c.wide-unit.ensures in
     let own = c.put_text-done.ensures.value in
     omega (
       arith,
       own,
-      same,
       end-within (text_in a.edition a.stream.now) a.numbers.now a.lines a.out.now l.invariant below,
       c.requires.listing.short,
     )
@@ -110,14 +103,9 @@ bounds-numbers-lines c =
 
 pub loop-k-preserved : goal.loop-k-preserved
 loop-k-preserved c =
-    let wide = c.wide-unit in
     let a = c.args in
-    let l = c.loop-k in
-    let below = c.loop-k-test.true in
-    let same = ap (λ (u : ℕ). length (text_in a.edition a.stream.now u)) wide.ensures in
-    let octets = ap (λ (u : ℕ). text_in a.edition a.stream.now u ++ drop c.put_text-done.result (part_from l.out l.done)) wide.ensures in
-    more-put (text_in a.edition a.stream.now) a.numbers.now a.lines a.out.now l.invariant below c.requires.lines_in_bounds c.put_text-done.result _
-    (c.put_text-done.ensures.value ∙ same) (c.put_text-done.ensures.out_after ∙ octets)
+    more-put (text_in a.edition a.stream.now) a.numbers.now a.lines a.out.now c.loop-k.invariant c.loop-k-test.true c.requires.lines_in_bounds
+    c.put_text-done.result _ c.put_text-done.ensures.value c.put_text-done.ensures.out_after
 
 pub shape_of-numbers : goal.shape_of-numbers
 shape_of-numbers c = c.loop-k.invariant.long

@@ -1,11 +1,7 @@
 -- `answers::text::put_texts` meets its contract. The loop's invariant is `PutSoFar`.
-use Prim.Native.Nat.{◌-◌}
 use Rattle.text_lines.proofs.Putting.{PutSoFar}
 use Rattle.answers.specs.Text.{text_in}
 use Rattle.answers.proofs.text.put_texts.Given as goal
 
 abbrev pub invariant-loop-k : goal.invariant-loop-k
 invariant-loop-k l = PutSoFar (text_in l.edition l.stream) l.initial.numbers l.lines l.initial.out l.k l.done l.numbers l.out
-
-abbrev pub decreases-loop-k : goal.decreases-loop-k
-decreases-loop-k l = l.lines - l.k

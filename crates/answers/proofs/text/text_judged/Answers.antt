@@ -14,7 +14,12 @@ use Rattle.answers.proofs.TextSteps.{Ends, reading-ends, finished-list, listing,
 use Rattle.answers.proofs.text.text_judged.Goals as goal
 
 pub find_matches-listed-requires : goal.find_matches-listed-requires
-find_matches-listed-requires c = record { accepts = c.requires.accepts; letter_rows = c.requires.letter_rows; both_filed = c.requires.both_filed; stream_in_bounds = omega (arith, c.requires.stream_in_bounds) }
+find_matches-listed-requires c = record {
+  accepts = c.requires.accepts;
+  letter_rows = c.requires.letter_rows;
+  both_filed = c.requires.both_filed;
+  stream_in_bounds = omega (arith, c.requires.stream_in_bounds);
+}
 
 pub measure-needed-requires : goal.measure-needed-requires
 measure-needed-requires c =
@@ -25,7 +30,7 @@ measure-needed-requires c =
       arith,
       c.requires.stream_in_bounds,
       c.find_matches-listed.auto.flat,
-    )) c.wide-found.ensures in
+    )) refl in
     record { accepts = c.requires.accepts; letter_rows = c.requires.letter_rows; listing = few }
 
 pub answer-shown-requires : goal.answer-shown-requires
@@ -37,7 +42,7 @@ answer-shown-requires c =
       arith,
       c.requires.stream_in_bounds,
       c.find_matches-listed.auto.flat,
-    )) c.wide-found.ensures in
+    )) refl in
     omega (arith, c.measure-needed.ensures, few.short)
 
 pub finish-requires : goal.finish-requires
@@ -66,19 +71,19 @@ put_texts-requires c =
       arith,
       c.requires.stream_in_bounds,
       c.find_matches-listed.auto.flat,
-    )) c.wide-found.ensures
-    c.measure-needed.ensures ends c.wide-lines.ensures in
+    )) refl
+    c.measure-needed.ensures ends refl in
     record { accepts = c.requires.accepts; letter_rows = c.requires.letter_rows; listing = put.0; lines_in_bounds = put.1 }
 
 pub returns : goal.returns
 returns c =
     let x = c.args in
     let l = accepted-judged c.requires.accepts.ended c.requires.letter_rows in
-    let all = c.wide-found.ensures in
+    let all = refl in
     let size = c.measure-needed.ensures in
     let told = c.answer-shown.ensures in
     let ends = subst (Ends _ _ (length x.out.now)) (sym told) (reading-ends _ _ (length x.out.now)) in
-    let lines = c.wide-lines.ensures in
+    let lines = refl in
     let few = puts x.edition x.side x.stream.now x.table.now x.room x.out.now refl c.find_matches-listed.ensures l
     (stream-fine x.stream.now _ _ c.requires.accepts.ended) (omega (
       arith,

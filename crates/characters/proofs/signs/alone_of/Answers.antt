@@ -1,16 +1,13 @@
 -- `characters::signs::alone_of` meets its contract: by what the set has.
-use borrow.Author.Tests.{ne_eqb}
+use mathlib.Core.Path.{sym, ◌∙◌}
 use Rattle.characters.specs.Signs.{alone}
+use Rattle.characters.proofs.Known.{alone-some, alone-none}
 use Rattle.characters.proofs.signs.alone_of.Goals as goal
 
-pub returns-then-p-eq0 : goal.returns-then-p-eq0
+pub returns-in-Some : goal.returns-in-Some
 unfolding alone
-returns-then-p-eq0 c =
-    let e = c.point_of-p.ensures in
-    rw (← e, c.if-p-eq0.true)
+returns-in-Some c = alone-some _ c.args.octet c.in-Some.p (sym c.point_of.ensures ∙ c.in-Some.is)
 
-pub returns : goal.returns
+pub returns-in-None : goal.returns-in-None
 unfolding alone
-returns c =
-    let e = c.point_of-p.ensures in
-    rw (← e, ne_eqb _ 0 c.if-p-eq0.false)
+returns-in-None c = alone-none _ c.args.octet (sym c.point_of.ensures ∙ c.in-None.is)

@@ -1,5 +1,5 @@
 -- `characters::steps::plain_end` meets its contract: the run from a place on is the octet there and the run past it.
-use Prim.Native.Nat.{◌<◌}
+use Prim.Native.Nat.{◌≤◌, ◌<◌}
 use native.Mathlib.Omega.{arith}
 use mathlib.Core.Path.{sym, ap, ◌∙◌}
 use lib.ListN.{length}
@@ -12,7 +12,7 @@ returns-then-not-is_plain c =
     let xs = c.args.octets.now in
     let within : l.end < length xs = omega arith in
     let no = sym c.is_plain.ensures ∙ c.if-not-is_plain.true in
-    omega (arith, l.invariant.2, ap length (front-stops xs l.end within no))
+    omega (arith, l.invariant, ap length (front-stops xs l.end within no))
 
 pub loop-end-preserved : goal.loop-end-preserved
 loop-end-preserved c =
@@ -20,10 +20,11 @@ loop-end-preserved c =
     let xs = c.args.octets.now in
     let within : l.end < length xs = omega arith in
     let so = sym c.is_plain.ensures ∙ c.if-not-is_plain.false in
-    (omega arith, omega arith, omega (arith, l.invariant.2, ap length (front-more xs l.end within so)))
+    omega (arith, l.invariant, ap length (front-more xs l.end within so))
 
 pub returns : goal.returns
 returns c =
     let l = c.loop-end in
     let xs = c.args.octets.now in
-    omega (arith, l.invariant.2, ap length (front_ends xs l.end c.loop-end-test.false))
+    let past : length xs ≤ l.end = omega arith in
+    omega (arith, l.invariant, ap length (front_ends xs l.end past))

@@ -1,5 +1,5 @@
 -- `characters::steps::plain_end` meets its contract: the run from a place on is the octet there and the run past it.
-use Prim.Native.Nat.{◌+◌, ◌-◌, ◌≤◌}
+use Prim.Native.Nat.{◌+◌}
 use mathlib.Core.Path.{◌≡◌}
 use lib.ListN.{length, drop}
 use Rattle.characters.specs.Steps.{plain_front}
@@ -7,7 +7,4 @@ use Rattle.characters.proofs.steps.plain_end.Given as goal
 
 -- the end of the run from the start on is that from here on
 abbrev pub invariant-loop-end : goal.invariant-loop-end
-invariant-loop-end l = (l.at ≤ l.end) × (l.end ≤ length l.octets) × (l.end + length (plain_front (drop l.end l.octets)) ≡ l.at + length (plain_front (drop l.at l.octets)))
-
-abbrev pub decreases-loop-end : goal.decreases-loop-end
-decreases-loop-end l = length l.octets - l.end
+invariant-loop-end l = l.end + length (plain_front (drop l.end l.octets)) ≡ l.at + length (plain_front (drop l.at l.octets))

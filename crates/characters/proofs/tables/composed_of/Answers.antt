@@ -1,7 +1,7 @@
 -- `characters::tables::composed_of` meets its contract: the lent table has the pairs, and what is outside of it is none.
-use Prim.Native.Nat.{◌+◌, ◌*◌}
+use Prim.Native.Nat.{◌+◌, ◌-◌, ◌*◌}
 use native.Mathlib.Omega.{arith}
-use mathlib.Core.Path.{sym}
+use mathlib.Core.Path.{refl, sym}
 use Rattle.characters.proofs.Rules.{pair-space, pair-letter, no-accent-below, no-accent-above, no-letter-below, no-letter-above}
 use Rattle.characters.proofs.tables.composed_of.Goals as goal
 
@@ -18,10 +18,8 @@ returns-then-a-gt207 c =
 pub returns-then-b-eq32 : goal.returns-then-b-eq32
 returns-then-b-eq32 c =
     let a = c.args in
-    let k = c.wide in
     let table = c.requires in
-    pair-space a.pairs.now table a.a a.b (k.result * 64) (omega arith) (omega arith) c.if-b-eq32.true
-    (omega (arith, k.ensures))
+    pair-space a.pairs.now table a.a a.b ((a.a - 0xC0) * 64) (omega arith) (omega arith) c.if-b-eq32.true refl
 
 pub returns-then-b-le64 : goal.returns-then-b-le64
 returns-then-b-le64 c =
@@ -36,8 +34,5 @@ returns-then-b-gt127 c =
 pub returns : goal.returns
 returns c =
     let a = c.args in
-    let i = c.wide-2 in
-    let j = c.wide-3 in
     let table = c.requires in
-    pair-letter a.pairs.now table a.a a.b (i.result * 64 + j.result) (omega arith) (omega arith) (omega arith) (omega arith)
-    (omega (arith, i.ensures, j.ensures))
+    pair-letter a.pairs.now table a.a a.b ((a.a - 0xC0) * 64 + (a.b - 0x40)) (omega arith) (omega arith) (omega arith) (omega arith) refl

@@ -11,7 +11,7 @@ unfolding left_point
 returns-then-is_own c =
     let no = c.is_currency.ensures in
     let own = c.is_own.ensures in
-    rw (← no, c.if-is_currency.false, ← own, c.if-is_own.true) c.point.ensures
+    rw (← no, c.if-is_currency.false, ← own, c.if-is_own.true)
 
 pub returns : goal.returns
 unfolding left_point

@@ -1,9 +1,7 @@
--- `characters::tables::pair_of` meets its contract: ISO 8859-1 has none.
-use borrow.Author.Tests.{ne_eqb}
+-- `characters::tables::pair_of` meets its contract: what is a pair has an accent.
+use native.Mathlib.Omega.{arith}
+use Rattle.characters.proofs.Rules.{accent-of}
 use Rattle.characters.proofs.tables.pair_of.Goals as goal
 
-pub returns-then-set-eq-LATIN1 : goal.returns-then-set-eq-LATIN1
-returns-then-set-eq-LATIN1 c = rw c.if-set-eq-LATIN1.true
-
-pub returns : goal.returns
-returns c = rw (ne_eqb _ 2 c.if-set-eq-LATIN1.false) c.composed_of.ensures
+pub combining_of-requires : goal.combining_of-requires
+combining_of-requires c = accent-of 0 c.args.a c.args.b (λ z. omega (arith, c.composed_of.ensures, c.in-1.is))

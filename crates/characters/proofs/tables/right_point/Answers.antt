@@ -1,14 +1,12 @@
 -- `characters::tables::right_point` meets its contract: the table is the supplement.
-use mathlib.Core.Path.{ap}
-use lib.ListN.{get_or}
-use borrow.Author.Tests.{ne_eqb}
 use Rattle.characters.specs.Sets.{supplement, right_point}
+use Rattle.characters.proofs.Known.{no-latin1}
 use Rattle.characters.proofs.tables.right_point.Goals as goal
 
-pub returns-then-set-eq-LATIN1 : goal.returns-then-set-eq-LATIN1
+pub returns-in-Latin1 : goal.returns-in-Latin1
 unfolding right_point
-returns-then-set-eq-LATIN1 c = rw c.if-set-eq-LATIN1.true c.point.ensures
+returns-in-Latin1 c = rw c.in-Latin1.is
 
-pub returns : goal.returns
+pub returns-in_default : goal.returns-in_default
 unfolding right_point supplement
-returns c = rw (ne_eqb _ 2 c.if-set-eq-LATIN1.false) (ap (λ k. get_or supplement k 0) c.wide.ensures)
+returns-in_default c = rw (no-latin1 c.args.set c.in_default.not-Latin1)

@@ -5,8 +5,5 @@ use Rattle.blocks.specs.Engine.{settle}
 use Rattle.engine.specs.Stored.{opens_of}
 use Rattle.engine.proofs.ends.close_ended.Given as goal
 
-abbrev pub invariant-loop-n : goal.invariant-loop-n
-invariant-loop-n l = (l.n ≤ 16) × ((k : ℕ) → settle k (opens_of l.level l.ends) l.at ≡ settle k (opens_of l.n l.ends) l.at)
-
-abbrev pub decreases-loop-n : goal.decreases-loop-n
-decreases-loop-n l = l.n
+abbrev pub invariant-loop-i : goal.invariant-loop-i
+invariant-loop-i l = (l.i ≤ 16) × ((k : ℕ) → settle k (opens_of l.level l.ends) l.at ≡ settle k (opens_of l.i l.ends) l.at)

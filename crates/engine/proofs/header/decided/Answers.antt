@@ -2,14 +2,14 @@
 use mathlib.Core.Path.{◌≡◌, ap, ◌∙◌}
 use mathlib.Core.Bool.{true, false}
 use mathlib.Core.List.{◌∷◌}
-use Prim.Native.Nat.{ℕ, ◌+◌, ◌-◌, ◌/◌, ◌%◌, ◌<◌}
+use Prim.Native.Nat.{ℕ, ◌+◌, ◌-◌, ◌/◌, ◌%◌}
 use native.Mathlib.Omega.{arith}
 use native.Mathlib.Numerals.{add-one}
 use borrow.Author.Tests.{eq-eqb, ne_eqb}
 use Rattle.headers.specs.Head.{constructed}
 use Rattle.blocks.specs.Engine.{Open, arrive}
 use Rattle.engine.specs.Skimming.{opens, with_standing}
-use Rattle.engine.proofs.Stores.{innermost, item-fits, mark-fits, refusal-numbered}
+use Rattle.engine.proofs.Stores.{one_less, item-fits, mark-fits, refusal-numbered}
 use Rattle.engine.proofs.header.decided.Goals as goal
 
 pub overflow_add-at : goal.overflow_add-at
@@ -46,13 +46,6 @@ overflow_add-b-in-ClosingMark c =
     let f = mark-fits c.args.limit c.args.b.at (16 - c.args.b.level) c.args.head c.in-ClosingMark.is c.requires.4 in
     omega arith
 
-pub returns-then-b-eq0 : goal.returns-then-b-eq0
-returns-then-b-eq0 c =
-    let b = c.args.b in
-    let w = c.arrived-then-b-eq0.ensures in
-    let z : b.level ≡ 0 = omega arith in
-    (w.state ∙ rw (c.in-ClosingMark.is, z), w.depth, w.kept, omega (arith, w.headers))
-
 pub overflow_cast-b : goal.overflow_cast-b
 overflow_cast-b c =
     let n = refusal-numbered c.args.head c.in-Refusal.number c.in-Refusal.place c.in-Refusal.is c.requires.5 in
@@ -68,12 +61,11 @@ returns-else-h-eq1 c =
     let q : constructed c.in-Item.h.code ≡ false = ne_eqb (c.in-Item.h.code / 32 % 2) 1 (λ e. omega arith) in
     (w.state ∙ rw (c.in-Item.is, q, add-one b.headers), w.depth, w.kept, omega (arith, w.headers))
 
-pub returns-else-b-eq0 : goal.returns-else-b-eq0
-returns-else-b-eq0 c =
+pub returns-in-ClosingMark : goal.returns-in-ClosingMark
+returns-in-ClosingMark c =
     let b = c.args.b in
     let w = c.arrived-in-ClosingMark.ensures in
-    let l : 0 < b.level = omega arith in
-    (w.state ∙ rw (c.in-ClosingMark.is, innermost b.level b.ends l), w.depth, w.kept, omega (arith, w.headers))
+    (w.state ∙ rw (c.in-ClosingMark.is, c.saturating_sub.ensures, one_less b.level b.ends), w.depth, w.kept, omega (arith, w.headers))
 
 pub returns-in-Refusal : goal.returns-in-Refusal
 returns-in-Refusal c =

@@ -4,82 +4,71 @@ use mathlib.Core.Bool.{true, false}
 use Prim.Native.Nat.{◌+◌, ◌-◌}
 use native.Mathlib.Omega.{arith}
 use lib.ListN.{length, set, take, length-set, length-map}
+use lib.Seq.{length-take-le}
 use Rattle.headers.specs.Head.{head_at}
 use Rattle.blocks.specs.Engine.{limit_of, marked_of, whole}
 use Rattle.engine.specs.Skimming.{opens, with_standing}
 use Rattle.engine.proofs.Stores.{lying, numbered, part-octet, whole-octet}
 use Rattle.engine.proofs.header.header_octet.Goals as goal
+use Rattle.engine.proofs.header.header_octet.Goals.{Start}
 
-pub is_whole-requires : goal.is_whole-requires
-is_whole-requires c =
+eight : (c : Start) → (length c.args.b.begun ≡ 8) × (length (set c.args.b.begun c.args.b.have c.args.octet) ≡ 8)
+eight c =
     let b = c.args.b in
-    let x = c.args.octet in
-    let have = c.wide-n.ensures in
-    let eight : length b.begun ≡ 8 = omega (arith, c.well_formed, length-map b.begun (λ v. v)) in
-    let same = length-set b.begun b.have x in
-    rw have (omega arith, omega arith)
+    let n : length b.begun ≡ 8 = omega (arith, c.well_formed, length-map b.begun (λ v. v)) in
+    (n, length-set b.begun b.have c.args.octet ∙ n)
+
+pub slice_bounds-is_whole-end : goal.slice_bounds-is_whole-end
+slice_bounds-is_whole-end c =
+    let b = c.args.b in
+    let n = eight (goal.at.slice_bounds-is_whole-end c).Start in
+    sym (length-take-le (b.have + 1) (set b.begun b.have c.args.octet) (omega arith))
 
 pub returns-then-not-is_whole : goal.returns-then-not-is_whole
 returns-then-not-is_whole c =
     let b = c.args.b in
-    let x = c.args.octet in
-    let have = c.wide-n.ensures in
-    let eight : length b.begun ≡ 8 = omega (arith, c.well_formed, length-map b.begun (λ v. v)) in
-    let same = length-set b.begun b.have x in
+    let octets = set b.begun b.have c.args.octet in
+    let n = eight (goal.at.returns-then-not-is_whole c).Start in
     let w = c.is_whole.ensures in
-    let left = c.without-left in
-    let limit = c.limit_at-limit in
-    let e : left.result ≡ limit_of b.total (opens b) - b.at = left.ensures ∙ rw limit.ensures.0 in
-    let no = c.if-not-is_whole.true in
-    let few = w.1 no in
-    let part : whole (take (b.have + 1) (set b.begun b.have x)) left.result ≡ false = rw (← have) (sym w.0 ∙ no) in
-    (rw have (part-octet b x (omega arith) left.result e c.requires.0 part), c.requires.1, omega arith, omega arith)
+    let few = w.1 c.if-not-is_whole.true in
+    let kept = length-take-le (b.have + 1) octets (omega arith) in
+    let left = c.saturating_sub-left in
+    let e : left.result ≡ limit_of b.total (opens b) - b.at = left.ensures ∙ rw c.limit_at-limit.ensures.0 in (
+      part-octet b c.args.octet (omega arith) left.result e c.requires.0 (sym w.0 ∙ c.if-not-is_whole.true),
+      c.requires.1,
+      omega arith,
+      omega arith,
+    )
 
 pub read_head-head-requires : goal.read_head-head-requires
-read_head-head-requires c =
-    let b = c.args.b in
-    let x = c.args.octet in
-    let have = c.wide-n.ensures in
-    let eight : length b.begun ≡ 8 = omega (arith, c.well_formed, length-map b.begun (λ v. v)) in
-    let same = length-set b.begun b.have x in
-    rw have (omega arith, omega arith)
+read_head-head-requires c = let n = eight (goal.at.read_head-head-requires c).Start in (omega arith, omega arith)
 
 pub decided-requires : goal.decided-requires
 decided-requires c =
     let b = c.args.b in
-    let x = c.args.octet in
-    let have = c.wide-n.ensures in
-    let eight : length b.begun ≡ 8 = omega (arith, c.well_formed, length-map b.begun (λ v. v)) in
-    let same = length-set b.begun b.have x in
-    let l = c.limit_at-limit in
-    let left = c.without-left in
-    let octets = set b.begun b.have x in
+    let octets = set b.begun b.have c.args.octet in
+    let limit = c.limit_at-limit in
     let marked = c.marked_at-marked.result in
-    let e : c.read_head-head.result ≡ head_at octets 0 (l.result - b.at) marked (16 - b.level) = c.read_head-head.ensures ∙ rw (have, left.ensures) in (
+    let e : c.read_head-head.result ≡ head_at octets 0 (limit.result - b.at) marked (16 - b.level) =
+    c.read_head-head.ensures ∙ rw c.saturating_sub-left.ensures in (
       c.requires.0,
       c.requires.1,
       c.requires.3,
-      l.ensures.1,
-      rw e (lying octets (l.result - b.at) (16 - b.level) marked),
-      rw e (numbered octets (l.result - b.at) marked (16 - b.level)),
+      limit.ensures.1,
+      rw e (lying octets (limit.result - b.at) (16 - b.level) marked),
+      rw e (numbered octets (limit.result - b.at) marked (16 - b.level)),
       c.requires.5,
     )
 
 pub returns : goal.returns
 returns c =
-    let is_whole = c.is_whole in
     let b = c.args.b in
-    let x = c.args.octet in
-    let have = c.wide-n.ensures in
-    let eight : length b.begun ≡ 8 = omega (arith, c.well_formed, length-map b.begun (λ v. v)) in
-    let same = length-set b.begun b.have x in
-    let w = is_whole.ensures in
-    let left = c.without-left in
-    let limit = c.limit_at-limit in
-    let e : left.result ≡ limit_of b.total (opens b) - b.at = left.ensures ∙ rw limit.ensures.0 in
-    let yes = c.if-not-is_whole.false in
-    let h : c.read_head-head.result ≡ head_at (set b.begun b.have x) 0 left.result (marked_of (opens b)) (16 - b.level) =
-    c.read_head-head.ensures ∙ rw (have, c.marked_at-marked.ensures) in
-    let all : whole (take (b.have + 1) (set b.begun b.have x)) left.result ≡ true = rw (← have) (sym w.0 ∙ yes) in
+    let octets = set b.begun b.have c.args.octet in
+    let n = eight (goal.at.returns c).Start in
+    let left = c.saturating_sub-left in
+    let e : left.result ≡ limit_of b.total (opens b) - b.at = left.ensures ∙ rw c.limit_at-limit.ensures.0 in
+    let h : c.read_head-head.result ≡ head_at octets 0 left.result (marked_of (opens b)) (16 - b.level) =
+    c.read_head-head.ensures ∙ rw c.marked_at-marked.ensures in
+    let all : whole (take (b.have + 1) octets) left.result ≡ true = sym c.is_whole.ensures.0 ∙ c.if-not-is_whole.false in
     let d = c.decided.ensures in
-    (d.0 ∙ ap (with_standing b) (whole-octet b x (omega arith) left.result e c.read_head-head.result h all), d.1, d.2, d.3)
+    (d.0 ∙ ap (with_standing b) (whole-octet b c.args.octet (omega arith) left.result e c.read_head-head.result h all), d.1, d.2, d.3)

@@ -49,14 +49,14 @@ pub overflow_sub-s : goal.overflow_sub-s
 overflow_sub-s c =
     omega (arith, c.loop-s.invariant.depth)
 
-pub head_apart-head-requires : goal.head_apart-head-requires
-head_apart-head-requires c =
+pub head_at-head-requires : goal.head_at-head-requires
+head_at-head-requires c =
     let eight = (c.loop-s.invariant.reads c.loop-s-test.true).eight in
     (omega (arith, eight), omega (arith, eight))
 
 pub skim_one-k-requires : goal.skim_one-k-requires
 skim_one-k-requires c =
-    (c.loop-s.invariant.reads c.loop-s-test.true, c.head_apart-head.ensures)
+    (c.loop-s.invariant.reads c.loop-s-test.true, c.head_at-head.ensures)
 
 pub settled-s-requires : goal.settled-s-requires
 settled-s-requires c =

@@ -98,7 +98,7 @@ returns-in-ClosingMark c =
     let p = c.requires in
     let w = looked a.seat a.s a.ends.now a.block.now p.0 a.head ClosingMark p.1 c.in-ClosingMark.is in
     subst (λ (r : Skim). Skims a.seat a.s a.ends.now a.block.now r a.ends.now) (sym (c.going-in-ClosingMark.ensures
-    ∙ rw c.without.ensures)) (skims-mark a.seat a.s a.ends.now a.block.now p.0 w.0)
+    ∙ rw c.saturating_sub.ensures)) (skims-mark a.seat a.s a.ends.now a.block.now p.0 w.0)
 
 pub returns-in-Refusal : goal.returns-in-Refusal
 returns-in-Refusal c =

@@ -1,4 +1,4 @@
--- `page::put_matches` meets its contract. The loop's invariant: the lines of the records so far are put. The measure is how many records are left.
+-- `page::put_matches` meets its contract. The loop's invariant: the lines of the records so far are put.
 use Prim.Native.Nat.{ℕ, ◌*◌}
 use native.Mathlib.Omega.{arith}
 use mathlib.Core.Path.{◌≡◌, refl, subst, ◌∙◌}
@@ -11,11 +11,11 @@ use Rattle.hexlister.proofs.page.put_matches.Goals as goal
 
 pub loop-i-init : goal.loop-i-init
 unfolding match_lines flatten
-loop-i-init c = (omega arith, refl, puts-nothing _ _)
+loop-i-init c = (refl, puts-nothing _ _)
 
 pub put_match-here-requires : goal.put_match-here-requires
 put_match-here-requires c =
-    let p = c.loop-i.invariant.2 in
+    let p = c.loop-i.invariant.1 in
     omega (arith, p.past, p.within)
 
 pub loop-i-preserved : goal.loop-i-preserved
@@ -23,10 +23,10 @@ loop-i-preserved c =
     let l = c.loop-i in
     let put = c.put_match-here in
     let a = c.args in
-    (omega arith, put.auto.page ∙ l.invariant.1, puts-match a.side a.records l.i no_record (omega arith) l.invariant.2 put.ensures)
+    (put.auto.page ∙ l.invariant.0, puts-match a.side a.records l.i no_record (omega arith) l.invariant.1 put.ensures)
 
 pub shape_of-page : goal.shape_of-page
-shape_of-page c = c.loop-i.invariant.1
+shape_of-page c = c.loop-i.invariant.0
 
 pub returns : goal.returns
 returns c =
@@ -34,4 +34,4 @@ returns c =
     let a = c.args in
     let e : l.i ≡ a.count = omega arith in
     puts-within (subst (λ (k : ℕ). PutsOnPage (match_lines a.side (take k a.records)) a.page.now a.at l.here l.page (line_room * k)) e
-    l.invariant.2) (omega arith)
+    l.invariant.1) (omega arith)

@@ -1,9 +1,10 @@
 -- `making::rules::rule` meets its contract: the rules one after another.
-use mathlib.Core.Path.{refl, sym, ◌∙◌}
+use mathlib.Core.Path.{◌≡◌, refl, ap, sym, ◌∙◌}
 use native.Mathlib.Omega.{arith}
+use Rattle.names.specs.Hash.{hash}
 use Rattle.making.specs.Entries.{said_by}
 use Rattle.making.proofs.Spelling.{spelt}
-use Rattle.making.proofs.Ruling.{identifier-lies, portion-lies, entry-lies, refuses-27, refuses-14, refuses-15, refuses-9, refuses-none}
+use Rattle.making.proofs.Ruling.{part-is, identifier-lies, portion-lies, entry-lies, refuses-27, refuses-14, refuses-15, refuses-9, refuses-none}
 use Rattle.making.proofs.rules.rule.Goals as goal
 
 pub returns-then-not-parts_lie : goal.returns-then-not-parts_lie
@@ -13,7 +14,8 @@ returns-then-not-parts_lie c =
     record {
       number_is = λ done keeps. sym (refuses-27 buffer done entry (sym c.parts_lie.ensures
           ∙ c.if-not-parts_lie.true));
-      passes = λ z. absurd (omega arith);
+      passes = λ hashed z. absurd cc;
+      refuses = λ number z e. let same : number ≡ 27 = cc in absurd (omega arith);
     }
 
 pub is_well_spelt-requires : goal.is_well_spelt-requires
@@ -32,17 +34,24 @@ returns-then-not-is_well_spelt c =
     record {
       number_is = λ done keeps. sym (refuses-14 buffer done entry i (sym c.is_well_spelt.ensures
           ∙ c.if-not-is_well_spelt.true));
-      passes = λ z. absurd (omega arith);
+      passes = λ hashed z. absurd cc;
+      refuses = λ number z e. let same : number ≡ 14 = cc in absurd (omega arith);
     }
 
-pub hash_over-hashed-requires : goal.hash_over-hashed-requires
-hash_over-hashed-requires c =
-    let parts-lie = c.parts_lie in
-    let buffer = c.args.buffer.now in
-    let entry = c.args.entry in
-    let i = sym parts-lie.ensures ∙ c.if-not-parts_lie.false in
-    let lies = identifier-lies buffer entry i in
-    (lies.order, lies.inside, omega arith)
+-- the identifier lies in the buffer
+pub slice_bounds-hash_over-count : goal.slice_bounds-hash_over-count
+slice_bounds-hash_over-count c =
+    (identifier-lies c.args.buffer.now c.args.entry (sym c.parts_lie.ensures ∙ c.if-not-parts_lie.false)).order
+
+pub slice_bounds-hash_over-start : goal.slice_bounds-hash_over-start
+slice_bounds-hash_over-start c =
+    let lies = identifier-lies c.args.buffer.now c.args.entry (sym c.parts_lie.ensures ∙ c.if-not-parts_lie.false) in
+    omega arith
+
+pub slice_bounds-hash_over-end : goal.slice_bounds-hash_over-end
+slice_bounds-hash_over-end c =
+    let lies = identifier-lies c.args.buffer.now c.args.entry (sym c.parts_lie.ensures ∙ c.if-not-parts_lie.false) in
+    omega arith
 
 pub is_used-requires : goal.is_used-requires
 is_used-requires c =
@@ -50,7 +59,8 @@ is_used-requires c =
     let buffer = c.args.buffer.now in
     let entry = c.args.entry in
     let i = sym parts-lie.ensures ∙ c.if-not-parts_lie.false in
-    record { bounded = c.requires; part_lies = (identifier-lies buffer entry i, c.hash_over-hashed.ensures.0) }
+    let lies = identifier-lies buffer entry i in
+    record { bounded = c.requires; part_lies = (lies, c.hash_over-hashed.ensures.0 ∙ ap hash (part-is buffer entry.identifier lies.order)) }
 
 pub returns-then-is_used : goal.returns-then-is_used
 returns-then-is_used c =
@@ -63,7 +73,8 @@ returns-then-is_used c =
     record {
       number_is = λ done keeps. sym (refuses-15 buffer done entry i w
           (sym (c.is_used.ensures done (said_by buffer entry) keeps (spelt (said_by buffer entry) w) refl) ∙ c.if-is_used.true));
-      passes = λ z. absurd (omega arith);
+      passes = λ hashed z. absurd cc;
+      refuses = λ number z e. let same : number ≡ 15 = cc in absurd (omega arith);
     }
 
 pub returns-then-n-ge-MOST_ENTRIES : goal.returns-then-n-ge-MOST_ENTRIES
@@ -78,7 +89,8 @@ returns-then-n-ge-MOST_ENTRIES c =
       number_is = λ done keeps. sym (refuses-9 buffer done entry i w
           (sym (c.is_used.ensures done (said_by buffer entry) keeps (spelt (said_by buffer entry) w) refl)
           ∙ c.if-is_used.false) (omega (arith, keeps.counted)));
-      passes = λ z. absurd (omega arith);
+      passes = λ hashed z. absurd cc;
+      refuses = λ number z e. let same : number ≡ 9 = cc in absurd (omega arith);
     }
 
 pub returns : goal.returns
@@ -93,5 +105,9 @@ returns c =
       number_is = λ done keeps. sym (refuses-none buffer done entry i w
           (sym (c.is_used.ensures done (said_by buffer entry) keeps (spelt (said_by buffer entry) w) refl)
           ∙ c.if-is_used.false) (omega (arith, keeps.counted)));
-      passes = λ z. record { lies = entry-lies buffer entry i w; few = omega arith; hash_is = c.hash_over-hashed.ensures.0 };
+      passes = λ hashed z.
+          let same : c.hash_over-hashed.result ≡ hashed = cc in
+          let lies = entry-lies buffer entry i w in
+          record { lies = lies; few = omega arith; hash_is = sym same ∙ (c.hash_over-hashed.ensures.0 ∙ ap hash (part-is buffer entry.identifier lies.identifier.order)) };
+      refuses = λ number z e. absurd cc;
     }

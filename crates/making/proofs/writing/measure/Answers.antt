@@ -12,7 +12,7 @@ use Rattle.making.proofs.writing.measure.Goals as goal
 
 pub loop-k-init : goal.loop-k-init
 unfolding size_up_to
-loop-k-init c = (omega arith, sym (capped-within 2 (omega arith)))
+loop-k-init c = sym (capped-within 2 (omega arith))
 
 pub entry_at-requires : goal.entry_at-requires
 entry_at-requires c = entry-there (length c.args.numbers.now) c.loop-k.k (omega arith)
@@ -26,7 +26,7 @@ overflow_add-size c =
     let numbers = c.args.numbers.now in
     omega (
       arith,
-      l.invariant.1,
+      l.invariant,
       capped-most (size_up_to numbers l.k),
       c.entry_size.ensures,
       capped-most (entry_size_by (names_of c.entry_at.result) (text_of c.entry_at.result)),
@@ -35,14 +35,12 @@ overflow_add-size c =
 pub loop-k-preserved : goal.loop-k-preserved
 loop-k-preserved c =
     let l = c.loop-k in
-    let entry_at = c.entry_at in (
-      omega arith,
-      measured-next c.args.numbers.now l.k l.size c.entry_size.result
-          c.cap-size.result entry_at.result l.invariant.1 entry_at.ensures c.entry_size.ensures c.cap-size.ensures,
-    )
+    let entry_at = c.entry_at in
+    measured-next c.args.numbers.now l.k l.size c.entry_size.result
+    c.cap-size.result entry_at.result l.invariant entry_at.ensures c.entry_size.ensures c.cap-size.ensures
 
 pub returns : goal.returns
 returns c =
     let numbers = c.args.numbers.now in
     let all : c.loop-k.k ≡ length numbers / entry_width = omega arith in
-    c.loop-k.invariant.1 ∙ ap (λ (n : ℕ). capped (size_up_to numbers n)) all
+    c.loop-k.invariant ∙ ap (λ (n : ℕ). capped (size_up_to numbers n)) all

@@ -14,7 +14,7 @@ use Rattle.making.proofs.writing.put_entries.Goals as goal
 pub loop-k-init : goal.loop-k-init
 loop-k-init c =
     let a = c.args in
-    (omega arith, refl, written_none a.buffer.now a.numbers.now a.out.now a.begin)
+    (refl, written_none a.buffer.now a.numbers.now a.out.now a.begin)
 
 pub entry_at-requires : goal.entry_at-requires
 entry_at-requires c = entry-there (length c.args.numbers.now) c.loop-k.k (omega arith)
@@ -32,7 +32,7 @@ put_entry-at-requires c =
       subst (EntryLies buffer) (sym e) (c.requires.0 l.k below),
       subst (λ (x : Entry). text_of x ≤ 1048576) (sym e) (omega (arith, c.requires.1)),
       subst (λ (x : Entry). l.at + entry_size_by (names_of x) (text_of x) ≤ length l.out) (sym e)
-          (omega (arith, c.requires.2, c.requires.3, l.invariant.1, l.invariant.2.to)),
+          (omega (arith, c.requires.2, c.requires.3, l.invariant.0, l.invariant.1.to)),
     )
 
 pub loop-k-preserved : goal.loop-k-preserved
@@ -40,13 +40,12 @@ loop-k-preserved c =
     let a = c.args in
     let l = c.loop-k in
     let entry_at = c.entry_at in (
-      omega arith,
-      c.put_entry-at.auto.out ∙ l.invariant.1,
-      written_next a.buffer.now a.numbers.now l.k entry_at.result entry_at.ensures l.invariant.2 c.put_entry-at.ensures,
+      c.put_entry-at.auto.out ∙ l.invariant.0,
+      written_next a.buffer.now a.numbers.now l.k entry_at.result entry_at.ensures l.invariant.1 c.put_entry-at.ensures,
     )
 
 pub shape_of-out : goal.shape_of-out
-shape_of-out c = c.loop-k.invariant.1
+shape_of-out c = c.loop-k.invariant.0
 
 pub returns : goal.returns
 returns c =
@@ -54,4 +53,4 @@ returns c =
     let numbers = c.args.numbers.now in
     let l = c.loop-k in
     let all : l.k ≡ length numbers / entry_width = omega arith in
-    subst (λ (n : ℕ). PutsOctets c.args.out.now c.args.begin (entries_octets (said_up_to buffer numbers n)) l.at l.out) all l.invariant.2
+    subst (λ (n : ℕ). PutsOctets c.args.out.now c.args.begin (entries_octets (said_up_to buffer numbers n)) l.at l.out) all l.invariant.1

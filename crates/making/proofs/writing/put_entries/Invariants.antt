@@ -1,14 +1,10 @@
 -- `making::writing::put_entries` meets its contract: after k turns the first k entries are written.
 use mathlib.Core.Path.{◌≡◌}
-use Prim.Native.Nat.{◌-◌, ◌/◌, ◌≤◌}
 use lib.ListN.{length}
 use Rattle.normal.specs.Passes.{PutsOctets}
-use Rattle.making.specs.Flat.{entry_width, said_up_to}
+use Rattle.making.specs.Flat.{said_up_to}
 use Rattle.making.specs.Octets.{entries_octets}
 use Rattle.making.proofs.writing.put_entries.Given as goal
 
 abbrev pub invariant-loop-k : goal.invariant-loop-k
-invariant-loop-k l = (l.k ≤ length l.numbers / entry_width) × (length l.out ≡ length l.initial.out) × PutsOctets l.initial.out l.begin (entries_octets (said_up_to l.buffer l.numbers l.k)) l.at l.out
-
-abbrev pub decreases-loop-k : goal.decreases-loop-k
-decreases-loop-k l = l.count - l.k
+invariant-loop-k l = (length l.out ≡ length l.initial.out) × PutsOctets l.initial.out l.begin (entries_octets (said_up_to l.buffer l.numbers l.k)) l.at l.out

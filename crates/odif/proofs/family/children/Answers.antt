@@ -3,4 +3,4 @@ use Rattle.answers.proofs.Working.{children-left}
 use Rattle.odif.proofs.family.children.Goals as goal
 
 pub returns : goal.returns
-returns c = children-left c.ask-told.ensures
+returns c = rw c.from.ensures (children-left c.ask-told.ensures)

@@ -12,7 +12,7 @@ use Rattle.rows.proofs.chains.find.Goals as goal
 
 pub bucket_of-requires : goal.bucket_of-requires
 bucket_of-requires c =
-    let bytes = spelling c.args.s.now c.args.asked in
+    let bytes = spelling c.args.asked in
     let low : hash bytes < hashes = hash-below 0 bytes (omega arith) in
     (c.requires.indexed.some_buckets, c.requires.indexed.few_buckets, omega (arith, c.requires.hashed_value))
 
@@ -22,7 +22,6 @@ bounds-head-bucket_of c = omega (arith, c.bucket_of.ensures.1)
 pub loop-link-init : goal.loop-link-init
 loop-link-init c =
     let b = c.bucket_of.ensures in
-    rw c.wide16-link.ensures
     (passed_first c.requires.indexed (b.0 ∙ ap (bucket (length c.args.head.now)) c.requires.hashed_value) b.1)
 
 pub has-requires : goal.has-requires
@@ -30,7 +29,7 @@ has-requires c =
     let b = c.requires.bounded in
     let j = c.loop-link.link - 1 in
     let l : j < c.args.n = omega (arith, c.loop-link.invariant.within) in
-    record { column_bound = b.in-row; scratch_width_in_bounds = omega (arith, b.in_table); j_bound = b.ordered j l; j_in_bounds = b.inside j l; asked_within = c.requires.asked_within }
+    record { column_bound = b.in-row; scratch_width_in_bounds = omega (arith, b.in_table); j_bound = b.ordered j l; j_in_bounds = b.inside j l }
 
 pub returns-then-has : goal.returns-then-has
 returns-then-has c =
@@ -44,11 +43,10 @@ bounds-next-j c =
 
 pub loop-link-smaller : goal.loop-link-smaller
 loop-link-smaller c =
-    omega (arith, c.wide16-link-in-loop-link.ensures, link-falls c.requires.indexed c.loop-link-test.true c.loop-link.invariant)
+    omega (arith, link-falls c.requires.indexed c.loop-link-test.true c.loop-link.invariant)
 
 pub loop-link-preserved : goal.loop-link-preserved
 loop-link-preserved c =
-    rw c.wide16-link-in-loop-link.ensures
     (passed-more c.requires.indexed c.loop-link-test.true c.loop-link.invariant
     (named-false c.has.ensures c.if-has.false))
 

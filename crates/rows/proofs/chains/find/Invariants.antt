@@ -6,7 +6,7 @@ use Rattle.rows.proofs.ChainSearch.{Passed}
 use Rattle.rows.proofs.chains.find.Given as goal
 
 abbrev pub invariant-loop-link : goal.invariant-loop-link
-invariant-loop-link l = Passed l.s l.rows l.column (length l.head) l.n l.space (spelling l.s l.asked) l.link
+invariant-loop-link l = Passed l.s l.rows l.column (length l.head) l.n l.space (spelling l.asked) l.link
 
 abbrev pub decreases-loop-link : goal.decreases-loop-link
 decreases-loop-link l = l.link

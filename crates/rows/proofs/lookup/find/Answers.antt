@@ -22,7 +22,7 @@ links_begin-requires c = some_links c.args.index.now c.requires.filed.by_hash.so
 pub bucket_of-requires : goal.bucket_of-requires
 bucket_of-requires c =
     let a = c.args in
-    bucket-asked a.index.now (spelling a.s.now a.asked) c.links_begin.ensures.0 c.requires.filed.by_hash c.requires.hashed_value
+    bucket-asked a.index.now (spelling a.asked) c.links_begin.ensures.0 c.requires.filed.by_hash c.requires.hashed_value
 
 pub returns-then-index-bucket_of-eq0 : goal.returns-then-index-bucket_of-eq0
 returns-then-index-bucket_of-eq0 c =

@@ -33,27 +33,27 @@ chained_of-from-requires c = omega (arith, (filed (goal.at.chained_of-from-requi
 
 pub find_later-requires : goal.find_later-requires
 find_later-requires c =
-    record { bounded = c.requires.bounded; ordered = in-order-from (filed (goal.at.find_later-requires c).After-next-1) c.chained_of-from.ensures; asked_within = c.requires.asked_within }
+    record { bounded = c.requires.bounded; ordered = in-order-from (filed (goal.at.find_later-requires c).After-next-1) c.chained_of-from.ensures }
 
 pub find-requires : goal.find-requires
 find-requires c =
     let here = (goal.at.find-requires c).After-next-1 in
     let chained-of = c.chained_of-from in
     let o = in-order-from (filed here) chained-of.ensures in
-    record { bounded = bounded-front o.begins c.requires.bounded; indexed = by-hash-from (filed here) chained-of.ensures; asked_within = c.requires.asked_within; hashed_value = c.requires.hashed_value }
+    record { bounded = bounded-front o.begins c.requires.bounded; indexed = by-hash-from (filed here) chained-of.ensures; hashed_value = c.requires.hashed_value }
 
-pub returns-in-At : goal.returns-in-At
-returns-in-At c =
+pub returns-in-Some : goal.returns-in-Some
+returns-in-Some c =
     let a = c.args in
-    subst (FindsFrom a.s.now a.rows.now a.column c.chained_of-from.result a.n a.space (spelling a.s.now a.asked))
-    c.in-At.is c.find_later.ensures
+    subst (FindsFrom a.s.now a.rows.now a.column c.chained_of-from.result a.n a.space (spelling a.asked))
+    c.in-Some.is c.find_later.ensures
 
-pub returns-in-Nothing : goal.returns-in-Nothing
-returns-in-Nothing c =
+pub returns-in-None : goal.returns-in-None
+returns-in-None c =
     let chained-of = c.chained_of-from in
     let a = c.args in
-    let o = in-order-from (filed (goal.at.returns-in-Nothing c).After-next-1) chained-of.ensures in
+    let o = in-order-from (filed (goal.at.returns-in-None c).After-next-1) chained-of.ensures in
     finds-more o.begins
-    (subst (FindsFrom a.s.now a.rows.now a.column chained-of.result a.n a.space (spelling a.s.now a.asked))
-    c.in-Nothing.is c.find_later.ensures)
+    (subst (FindsFrom a.s.now a.rows.now a.column chained-of.result a.n a.space (spelling a.asked))
+    c.in-None.is c.find_later.ensures)
     c.find.result c.find.ensures

@@ -1,49 +1,38 @@
--- `rows::order::is_less` meets its contract. The loop's invariant: the whole is in the order that what is left is.
-use mathlib.Core.Path.{◌≡◌, refl, sym, ◌∙◌}
-use mathlib.Core.Bool.{cond}
-use Prim.Native.Nat.{◌+◌}
+-- `rows::order::is_less` meets its contract. The loop's invariant: the whole is in the order that what is left is, and both have lost as much.
+use mathlib.Core.Path.{◌≡◌, sym, ap, ◌∙◌}
+use mathlib.Core.Logic.{inl, inr}
+use mathlib.Core.List.{List, ◌∷◌}
+use Prim.Native.Nat.{ℕ, ◌+◌}
 use native.Mathlib.Omega.{arith}
 use borrow.Author.Tests.{eq-eqb, ne_eqb}
-use lib.Dec.{eqb, ltb}
-use lib.ListN.{get_or}
-use lib.Seq.{slice, slice_empty}
+use lib.ListN.{length}
 use Rattle.rows.specs.Order.{less}
-use Rattle.rows.proofs.Less.{less-more, less-nothing, nothing-less}
+use Rattle.rows.proofs.Less.{less_ended}
 use Rattle.rows.proofs.order.is_less.Goals as goal
-use Rattle.rows.proofs.order.is_less.Goals.{Else-j-to}
 
--- what the next two bytes decide
-turn : (c : Else-j-to) →
-    let a = c.args in
-    let l = c.loop-i in
-    less (slice a.first a.past a.s.now) (slice a.from a.to a.s.now)
-    ≡ cond (eqb (get_or a.s.now l.i 0) (get_or a.s.now l.j 0))
-    (less (slice (l.i + 1) a.past a.s.now) (slice (l.j + 1) a.to a.s.now))
-    (ltb (get_or a.s.now l.i 0) (get_or a.s.now l.j 0))
-turn c =
-    let a = c.args in
-    let l = c.loop-i in
-    l.invariant.2 ∙ less-more a.s.now l.i a.past l.j a.to (omega arith) (omega arith) (omega (arith, c.if-j-to.false)) (omega arith)
+-- one byte less on both sides
+lengths : {a b xs ys : List ℕ} {x y : ℕ} (m n : ℕ) → a ≡ x ∷ xs → b ≡ y ∷ ys → m + length b ≡ n + length a → m + length ys ≡ n + length xs
+lengths m n p q e = let r = ap length p in let s = ap length q in omega (arith, r, s, e)
 
-pub loop-i-init : goal.loop-i-init
-loop-i-init c = (omega arith, omega arith, refl)
+pub returns-then-x-y : goal.returns-then-x-y
+unfolding less
+returns-then-x-y c =
+    let s = c.in-Some.ensures.steps in
+    sym (c.loop-x.invariant.1 ∙ rw (s.0, s.1, ne_eqb _ _ c.if-x-y.true))
 
-pub returns-then-j-to : goal.returns-then-j-to
-returns-then-j-to c =
-    let a = c.args in
-    let l = c.loop-i in
-    sym (l.invariant.2 ∙ rw (c.if-j-to.true, slice_empty a.to a.s.now) (less-nothing (slice l.i a.past a.s.now)))
-
-pub returns-then-s-i : goal.returns-then-s-i
-returns-then-s-i c = sym (turn (goal.at.returns-then-s-i c).Else-j-to ∙ rw (ne_eqb _ _ c.if-s-i.true))
-
-pub loop-i-preserved : goal.loop-i-preserved
-loop-i-preserved c =
-    (omega arith, omega (arith, c.if-j-to.false), turn (goal.at.loop-i-preserved c).Else-j-to ∙ rw (eq-eqb _ _ c.if-s-i.false))
+pub loop-x-preserved : goal.loop-x-preserved
+unfolding less
+loop-x-preserved c =
+    let s = c.in-Some.ensures.steps in
+    let i = c.loop-x.invariant in
+    (lengths _ _ s.0 s.1 i.0, i.1 ∙ rw (s.0, s.1, eq-eqb _ _ c.if-x-y.false))
 
 pub returns : goal.returns
 returns c =
-    let a = c.args in
-    let l = c.loop-i in
-    let e : l.i ≡ a.past = omega arith in
-    sym (l.invariant.2 ∙ rw (e, slice_empty a.past a.s.now) (nothing-less a.s.now l.j a.to (omega arith) (omega arith)))
+    let i = c.loop-x.invariant in
+    let a = c.loop-x.x-iterator.a.rest.now in
+    let b = c.loop-x.x-iterator.b.rest.now in
+    sym (i.1 ∙ elim c.in-None.ensures.steps [
+      | inl h ↦ less_ended a b _ _ i.0 (inl h.1.0)
+      | inr h ↦ less_ended a b _ _ i.0 (inr h.1.0)
+    ])

@@ -7,7 +7,7 @@ use Rattle.rows.specs.Lookup.{Between}
 use Rattle.rows.proofs.places.place.Given as goal
 
 abbrev pub invariant-loop-low : goal.invariant-loop-low
-invariant-loop-low l = Between l.s l.rows l.column l.next l.from l.n (l.space ∷ spelling l.s l.asked) l.low l.high
+invariant-loop-low l = Between l.s l.rows l.column l.next l.from l.n (l.space ∷ spelling l.asked) l.low l.high
 
 abbrev pub decreases-loop-low : goal.decreases-loop-low
 decreases-loop-low l = l.high - l.low

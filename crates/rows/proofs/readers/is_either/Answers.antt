@@ -12,5 +12,5 @@ itself false = refl
 pub returns-then-x-a : goal.returns-then-x-a
 returns-then-x-a c = rw (eq-eqb _ _ c.if-x-a.true)
 
-pub returns : goal.returns
-returns c = let a = c.args in rw (ne_eqb _ _ c.if-x-a.false) (itself (eqb a.x a.b))
+pub returns-else-x-a : goal.returns-else-x-a
+returns-else-x-a c = let a = c.args in rw (ne_eqb _ _ c.if-x-a.false) (itself (eqb a.x a.b))

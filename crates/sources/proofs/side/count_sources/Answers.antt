@@ -1,7 +1,7 @@
 -- `sources::side::count_sources` meets its contract. The loop's invariant: the sources that are counted, and those of the lines that are left, are all.
 --
 use mathlib.Core.Path.{◌≡◌, ap}
-use Prim.Native.Nat.{ℕ, ◌+◌, ◌≤◌}
+use Prim.Native.Nat.{◌+◌, ◌≤◌}
 use native.Mathlib.Omega.{arith}
 use lib.ListN.{length}
 use Rattle.sources.specs.Units.{places_in}
@@ -19,7 +19,6 @@ turn c =
     let a = c.args in
     let l = c.loop-k in
     let places = places_in a.edition a.s.now in
-    let unit = ap (λ (u : ℕ). length (places u)) c.wide-unit.ensures in
     omega (arith, left-length places a.numbers.now a.lines l.k c.loop-k-test.true, c.count_unit-total.ensures)
 
 all_short : (c : After-count_unit-total) →
@@ -29,16 +28,16 @@ all_short : (c : After-count_unit-total) →
 all_short c =
     let a = c.args in
     let all = ap length (left-all (places_in a.edition a.s.now) a.numbers.now a.lines) in
-    omega (arith, c.requires.lines_listed.short, c.loop-k.invariant.1)
+    omega (arith, c.requires.lines_listed.short, c.loop-k.invariant)
 
 pub loop-k-init : goal.loop-k-init
-loop-k-init c = (omega arith, omega arith)
+loop-k-init c = omega arith
 
-pub overflow_mul-k : goal.overflow_mul-k
-overflow_mul-k c = omega (arith, c.requires.lines_listed.room)
+pub overflow_mul-unit : goal.overflow_mul-unit
+overflow_mul-unit c = omega (arith, c.requires.lines_listed.room)
 
-pub overflow_add-k : goal.overflow_add-k
-overflow_add-k c = omega (arith, c.requires.lines_listed.room)
+pub overflow_add-unit : goal.overflow_add-unit
+overflow_add-unit c = omega (arith, c.requires.lines_listed.room)
 
 pub offset_bounds-numbers-k : goal.offset_bounds-numbers-k
 offset_bounds-numbers-k c = omega (arith, c.requires.lines_listed.room)
@@ -55,7 +54,7 @@ overflow_add-total c =
     omega (arith, turn here, all_short here)
 
 pub loop-k-preserved : goal.loop-k-preserved
-loop-k-preserved c = (omega arith, omega (arith, turn (goal.at.loop-k-preserved c).After-count_unit-total, c.loop-k.invariant.1))
+loop-k-preserved c = omega (arith, turn (goal.at.loop-k-preserved c).After-count_unit-total, c.loop-k.invariant)
 
 pub returns : goal.returns
 returns c =
@@ -64,4 +63,4 @@ returns c =
     let places = places_in a.edition a.s.now in
     let none_left = ap length (left-none places a.numbers.now a.lines l.k (omega arith)) in
     let all = ap length (left-all places a.numbers.now a.lines) in
-    omega (arith, l.invariant.1)
+    omega (arith, l.invariant)

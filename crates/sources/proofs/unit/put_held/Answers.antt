@@ -16,16 +16,21 @@ put_piece-requires c =
 pub put_places-requires : goal.put_places-requires
 put_places-requires c =
     let s = c.args.s.now in
-    record { fine = (subst (HeldHere s) c.in-Pieces.is c.requires.held_here.0, c.requires.held_here.1); r_in_bounds = omega (arith, ap (λ (held : Held). length (held_places s held)) c.in-Pieces.is, c.requires.held_in_bounds) }
+    record {
+      fine = (subst (HeldHere s) c.in-Pieces.is c.requires.held_here.0, c.requires.held_here.1);
+      r_in_bounds = omega (arith, ap (λ (held : Held). length (held_places s held)) c.in-Pieces.is, c.requires.held_in_bounds);
+    }
 
 pub returns-in-Part : goal.returns-in-Part
 returns-in-Part c =
     let a = c.args in
-    let told = puts-same a.line c.put_piece.result _ _ _ _ (ap (held_places a.s.now) c.in-Part.is) (c.put_piece.ensures.value, c.put_piece.ensures.list_after) in
+    let put = c.put_piece in
+    let told = puts-same a.line put.result _ _ _ _ (ap (held_places a.s.now) c.in-Part.is) (put.ensures.value, put.ensures.list_after) in
     record { value = told.0; list_after = told.1 }
 
 pub returns-in-Pieces : goal.returns-in-Pieces
 returns-in-Pieces c =
     let a = c.args in
-    let told = puts-same a.line c.put_places.result _ _ _ _ (ap (held_places a.s.now) c.in-Pieces.is) (c.put_places.ensures.value, c.put_places.ensures.list_after) in
+    let put = c.put_places in
+    let told = puts-same a.line put.result _ _ _ _ (ap (held_places a.s.now) c.in-Pieces.is) (put.ensures.value, put.ensures.list_after) in
     record { value = told.0; list_after = told.1 }

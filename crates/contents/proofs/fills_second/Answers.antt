@@ -1,8 +1,0 @@
--- `contents::fills_second` meets its contract, by its one test.
-use Rattle.contents.proofs.fills_second.Goals as goal
-
-pub returns-then-one : goal.returns-then-one
-returns-then-one c = rw c.if-one.true
-
-pub returns : goal.returns
-returns c = rw c.if-one.false

@@ -1,0 +1,14 @@
+-- `scratch::list::list_side` meets its contract: the stream is walked, its size is told, and the numbers are enough for that size.
+use mathlib.Core.Path.{sym}
+use native.Mathlib.Omega.{arith}
+use Rattle.scratch.proofs.Arrays.{few-of, many-of}
+use Rattle.scratch.proofs.list.list_side.Goals as goal
+
+pub needs_few-requires : goal.needs_few-requires
+needs_few-requires c = sym c.walk-walked.ensures
+
+pub list_by-requires : goal.list_by-requires
+list_by-requires c = record { sized = few-of c.if-needs_few.true c.needs_few.ensures; size = omega arith }
+
+pub list_by-requires-2 : goal.list_by-requires-2
+list_by-requires-2 c = record { sized = many-of c.if-needs_few.false c.needs_few.ensures; size = omega arith }
