@@ -1,6 +1,6 @@
 -- What an item's type field is that was read, and that a header that is read lies between its place and the limit, in the order of its
 -- parts; and so does a closing mark.
-use Rattle.std.specs.Prelude.{Result}
+use Rattle.std.specs.Prelude.{Result, Ok, Err}
 use mathlib.Core.Path.{◌≡◌}
 use mathlib.Core.Bool.{Bool, true, false≢true}
 use mathlib.Core.List.{List, [], ◌∷◌}
@@ -13,7 +13,7 @@ use Rattle.headers.specs.declared.Head.{Head}
 use Rattle.headers.specs.declared.Head.TheVariants.{Item, ClosingMark, Refusal}
 use Rattle.headers.specs.declared.Field.{Field}
 use Rattle.headers.specs.Head.{number_bits, constructed, is_in, form_allowed, above_thirty, code_of, misfits, octet_at, definite_at, indefinite_at, long_at}
-use Rattle.headers.specs.Head.{by_first, length_at, after_field, closing_at, item_at, head_at}
+use Rattle.headers.specs.Head.{by_first, length_at, after_field, field_at, closing_at, item_at, head_at}
 use Rattle.laws.proofs.Tests.{cond-holds}
 
 -- a type field that was read at `at`, from this octet on: its code, and the place past it
@@ -70,6 +70,28 @@ pub field_past : {s : List ℕ} {octet at limit code past : ℕ} → FieldRead s
 field_past (in_one n f) = omega arith
 field_past (in_two n f l a b) = omega arith
 field_past (in_three n f l a b c) = omega arith
+
+-- a type field that is read ends within three octets
+abbrev pub FieldEnds : (at : ℕ) → Result Field ℕ → Type 0
+FieldEnds at (Ok field) = field.past ≤ at + 3
+FieldEnds at (Err number) = Unit {0}
+
+pub field-ends : (s : List ℕ) (octet at limit : ℕ) → FieldEnds at (field_at s octet at limit)
+field-ends s octet at limit =
+    let P = FieldEnds at in
+    let second = octet_at s (at + 1) in
+    cond-holds P (eqb (number_bits octet) 31)
+    (λ _. cond-holds P (ltb (at + 1) limit)
+    (λ _. cond-holds P (ltb second 31) (λ _. tt)
+    (λ _. cond-holds P (ltb second 0x80) (λ _. cond-holds P (is_in octet above_thirty) (λ _. omega arith) (λ _. tt))
+    (λ _. cond-holds P (eqb second 0x80) (λ _. tt)
+    (λ _. cond-holds P (ltb second 0x100)
+    (λ _. cond-holds P (ltb (at + 2) limit)
+    (λ _. cond-holds P (ltb (octet_at s (at + 2)) 0x80) (λ _. cond-holds P (is_in octet above_thirty) (λ _. omega arith) (λ _. tt)) (λ _. tt))
+    (λ _. tt))
+    (λ _. tt)))))
+    (λ _. tt))
+    (λ _. cond-holds P (form_allowed octet) (λ _. omega arith) (λ _. tt))
 
 -- a header lies between `at` and the limit, there is room for its item, and only a constructed item is indefinite
 pub record Lies (at limit room : ℕ) (h : Header) : Type 0 where

@@ -56,7 +56,7 @@ fn is_few(stream: &[u8], headers: usize) -> bool
 }
 
 // Whether a stream that was walked needs few rows: what the walk refused needs none.
-fn needs_few(stream: &[u8], walked: Result<Ended, Refused>) -> bool
+pub fn needs_few(stream: &[u8], walked: Result<Ended, Refused>) -> bool
     requires { walk_of stream.now ≡ walked }
     ensures { Sized stream.now walked (cond result 512 4096) }
 {
